@@ -31,7 +31,7 @@ COMMANDED = [
     ("5 What joins it to the words of a command and to the devices", [("mv_top/src/top.rt", "multiverse"), ("mv_top/src/picking.rt", "multiverse_by_words")]),
 ]
 APART = [
-    ("6 The work that a meaning counts", [("mv_ast/specs/Names.antt", "names_local"), ("mv_ast/specs/Counts.antt", "patchable"), ("mv_meaning/specs/Meaning.antt", "poll_work")]),
+    ("6 The work that a meaning counts", [("mv_ast/specs/Names.antt", "names_local"), ("mv_ast/specs/Counts.antt", "patchable_places"), ("mv_meaning/specs/Meaning.antt", "poll_work")]),
 ]
 APPENDICES = [
     ("A Which text is which program", [("mv_front/specs/Verdicts.antt", "IsProgram")]),
@@ -41,8 +41,8 @@ APPENDICES = [
         ("mv_count_limits/specs/Counted.antt", "IsWithinCounts")]),
     ("B `build`, and the form of an image", [("mv_top/specs/Building.antt", "BuildsFile"), ("mv_top/specs/Building.antt", "IsBuiltAs"), ("mv_image/specs/Faults.antt", "Spells")]),
     ("C `exec`", [
-        ("mv_top/specs/Executing.antt", "ExecDoes"), ("mv_exec/specs/Loading.antt", "IsBadImage"), ("mv_operator/specs/Operator.antt", "IsImageFirstWrong"),
-        ("mv_operator/specs/Operator.antt", "IsImageActions")]),
+        ("mv_top/specs/Executing.antt", "ExecDoes"), ("mv_exec/specs/Loading.antt", "IsBadImage"), ("mv_actions/specs/Operator.antt", "IsImageFirstWrong"),
+        ("mv_actions/specs/Operator.antt", "IsImageActions")]),
     ("D `list` and `disasm`", [("mv_top/specs/Listing.antt", "ListsFile"), ("mv_top/specs/Listing.antt", "DisassemblesFile")]),
     ("E `eval`", [("mv_top/specs/Evaluating.antt", "EvaluatesFile"), ("mv_eval/specs/Evaluations.antt", "meaning")]),
     ("F `gen`", [("mv_top/specs/Generating.antt", "GenDoes"), ("mv_gen/specs/Generated.antt", "generated"), ("mv_top/specs/Generating.antt", "is_cut_short")]),

@@ -88,7 +88,7 @@ class Launcher(unittest.TestCase):
         shutil.copy(LAUNCHER, os.path.join(self.top, "tools", "launcher.py"))
         for name in CRATES:
             shutil.copy(os.path.join(TOP, name), self.top)
-        for name in ("check_headers.py", "check_families.py", "check_laws.py", "check_documents.py", "check_rows.py", "definitions.py", "test_launcher.py"):
+        for name in ("check_headers.py", "check_families.py", "check_laws.py", "check_imports.py", "check_documents.py", "check_rows.py", "definitions.py", "test_launcher.py"):
             self.write(f"top/tools/{name}", "")
         for name, text in (("crates.txt", "mv_cli:\n"), ("HANDLES", ""), ("crates/mv_cli/src/main.rt", "//\n"), ("crates/mv_cli/src/more.rt", "//\n")):
             self.write(f"top/{name}", text)

@@ -1,7 +1,7 @@
 -- What is counted in code, what it reads, names and asks for doesn't grow where arms are reached by one jump.
-use Rattle.std.proofs.Common.{arith, ◌≡◌, ℕ, ◌≤◌, Bool, true, List, [], ◌∷◌, ◌++◌, refl, sym, ◌∙◌, ap, subst, ◌⊎◌, inl, inr, Contains}
+use Rattle.std.proofs.Common.{arith, ◌≡◌, ℕ, ◌≤◌, Bool, true, List, [], ◌∷◌, ◌++◌, refl, sym, ◌∙◌, ap, subst}
 use Rattle.std.specs.Prelude.{◌&&◌}
-use Rattle.std.proofs.lemmas.List.Elements.{Contains-append_left, Contains-append_right, Contains-append_cases}
+use Rattle.std.proofs.lemmas.List.Elements.{Contains-append_left, Contains-append_right}
 use Rattle.mv_num.proofs.Booleans.{and_cases}
 use Rattle.mv_ir.specs.declared.tree.Tree.{Tree}
 use Rattle.mv_ir.specs.declared.stm.Array.{Array}
@@ -10,24 +10,15 @@ use Rattle.mv_ir.specs.declared.stm.Stm.TheOpen.{Stm-F}
 use Rattle.mv_ir.specs.declared.stm.Stm.TheOpen as stm
 use Rattle.mv_ir.specs.declared.stm.Stm.TheViews.{roll-Stm}
 use Rattle.mv_ir.specs.Rolled.{choose, break, enclosed}
+use Rattle.mv_ir.proofs.Common.{and_keeps}
 use Rattle.mv_fold.specs.Folded.{IsNoGreater}
-use Rattle.mv_fold.proofs.Within.{Among, none_among, Amount, Less, less_refl, less_trans, with, amount, amount_append, amount_one, Within, within_append, within_one, no_greater}
-use Rattle.mv_fold.proofs.FoldedWithin.{of_tree, loop_amount, block_amount, chooser, if_amount, if_within, inside}
+use Rattle.mv_fold.proofs.Within.{Among, among_both, none_among, Amount, Less, less_refl, less_trans, with, bare, amount, amount_append, amount_one, Within, within_append, within_one, no_greater}
+use Rattle.mv_fold.proofs.FoldedWithin.{of_tree, loop_amount, block_amount, chooser, amount_choice, if_within, inside}
 use Rattle.mv_fold.proofs.WellFormed.{Facts, both, facts, facts_append, layer_facts, facts_one, if_facts}
 use Rattle.mv_arms.specs.Arms.{skips, Arms}
 use Rattle.mv_arms.proofs.Structure.{IsClosed, arms_is}
 
 -- ---- what is counted
-
-abbrev one : Amount
-one = record { nodes = 0; depth = 0; reads = []; statements = 1; calls = 0; arrays = [] }
-
-among_both : (xs ys zs : List ℕ) → Among xs zs → Among ys zs → Among (xs ++ ys) zs
-among_both xs ys zs h k g c = by (Contains-append_cases xs ys g c)
-  where
-    by : Contains xs g ⊎ Contains ys g → Contains zs g
-    by (inl e) = h g e
-    by (inr e) = k g e
 
 -- what an arm gives way to, behind what is there already, which may have a jump more than it had
 module _ (c a b b' : Amount) (h : Less b' b) where
@@ -39,7 +30,7 @@ module _ (c a b b' : Amount) (h : Less b' b) where
   among_none : (xs ys : List ℕ) → Among xs ys → Among (xs ++ []) ys
   among_none xs ys k = among_both xs [] ys k (none_among ys)
 
-  next_less : (x : Amount) → 1 ≤ c.statements → Less (with (with one x) b') (with x (with c (with a b)))
+  next_less : (x : Amount) → 1 ≤ c.statements → Less (with (with bare x) b') (with x (with c (with a b)))
   next_less x some = record {
     nodes = omega (arith, h.nodes);
     depth = omega (arith, h.depth);
@@ -49,7 +40,7 @@ module _ (c a b b' : Amount) (h : Less b' b) where
     arrays = last_among (λ z. z.arrays) x.arrays x.arrays h.arrays (λ g e. e);
   }
 
-  first_less : (x x' : Amount) → Less x' x → 1 ≤ c.statements → Less (with (with one (with x' one)) b') (with (with one x) (with c (with a b)))
+  first_less : (x x' : Amount) → Less x' x → 1 ≤ c.statements → Less (with (with bare (with x' bare)) b') (with (with bare x) (with c (with a b)))
   first_less x x' k some = record {
     nodes = omega (arith, h.nodes, k.nodes);
     depth = omega (arith, h.depth, k.depth);
@@ -59,11 +50,8 @@ module _ (c a b b' : Amount) (h : Less b' b) where
     arrays = last_among (λ z. z.arrays) (x'.arrays ++ []) x.arrays h.arrays (among_none x'.arrays x.arrays k.arrays);
   }
 
-block_is : (xs ys : List Stm) → amount (enclosed xs ∷ ys) ≡ with (with one (amount xs)) (amount ys)
+block_is : (xs ys : List Stm) → amount (enclosed xs ∷ ys) ≡ with (with bare (amount xs)) (amount ys)
 block_is xs ys = amount_append (enclosed xs ∷ []) ys ∙ ap (λ a. with a (amount ys)) (amount_one (stm.Block xs) ∙ block_amount xs)
-
-choice_is : (c : Tree) (a b : List Stm) → amount (choose c a b ∷ []) ≡ with (chooser c) (with (amount a) (amount b))
-choice_is c a b = amount_one (stm.If c a b) ∙ if_amount c a b
 
 less_by : (xs ys : List Stm) (a b : Amount) → amount xs ≡ a → amount ys ≡ b → Less b a → Within xs ys
 less_by xs ys a b e f h = subst (λ z. Less z (amount xs)) (sym f) (subst (Less b) (sym e) h)
@@ -76,17 +64,17 @@ within_closed = record {
   branches = λ c a a' b b'. if_within c c a a' b b' (less_refl (of_tree c));
   loops = λ b b'. inside (stm.Loop b) (stm.Loop b') b b' (loop_amount b) (loop_amount b');
   encloses = λ b b'. inside (stm.Block b) (stm.Block b') b b' (block_amount b) (block_amount b');
-  leaves = λ n k. within_one (stm.Break n) (stm.Break k) (less_refl one);
-  restarts = λ n k. within_one (stm.Back n) (stm.Back k) (less_refl one);
+  leaves = λ n k. within_one (stm.Break n) (stm.Break k) (less_refl bare);
+  restarts = λ n k. within_one (stm.Back n) (stm.Back k) (less_refl bare);
   first = λ tests front k t i b b' is h hb.
-      let jump : amount (front ++ break k ∷ []) ≡ with (amount front) one = amount_append front (break k ∷ []) ∙ ap (with (amount front)) (amount_one (stm.Break k)) in
-      less_by (enclosed tests ∷ choose (skips i t) [] b ∷ []) (enclosed (front ++ break k ∷ []) ∷ b') (with (with one (amount tests)) (with (chooser (skips i t)) (with (amount []) (amount b))))
-      (with (with one (with (amount front) one)) (amount b')) (block_is tests (choose (skips i t) [] b ∷ []) ∙ ap (with (with one (amount tests))) (choice_is (skips i t) [] b))
-      (block_is (front ++ break k ∷ []) b' ∙ ap (λ x. with (with one x) (amount b')) jump)
+      let jump : amount (front ++ break k ∷ []) ≡ with (amount front) bare = amount_append front (break k ∷ []) ∙ ap (with (amount front)) (amount_one (stm.Break k)) in
+      less_by (enclosed tests ∷ choose (skips i t) [] b ∷ []) (enclosed (front ++ break k ∷ []) ∷ b') (with (with bare (amount tests)) (with (chooser (skips i t)) (with (amount []) (amount b))))
+      (with (with bare (with (amount front) bare)) (amount b')) (block_is tests (choose (skips i t) [] b ∷ []) ∙ ap (with (with bare (amount tests))) (amount_choice (skips i t) [] b))
+      (block_is (front ++ break k ∷ []) b' ∙ ap (λ x. with (with bare x) (amount b')) jump)
       (first_less (chooser (skips i t)) (amount []) (amount b) (amount b') hb (amount tests) (amount front) h (omega arith));
   next = λ inner t i b b' is hb.
-      less_by (inner ++ choose (skips i t) [] b ∷ []) (enclosed inner ∷ b') (with (amount inner) (with (chooser (skips i t)) (with (amount []) (amount b)))) (with (with one (amount inner)) (amount b'))
-      (amount_append inner (choose (skips i t) [] b ∷ []) ∙ ap (with (amount inner)) (choice_is (skips i t) [] b)) (block_is inner b')
+      less_by (inner ++ choose (skips i t) [] b ∷ []) (enclosed inner ∷ b') (with (amount inner) (with (chooser (skips i t)) (with (amount []) (amount b)))) (with (with bare (amount inner)) (amount b'))
+      (amount_append inner (choose (skips i t) [] b ∷ []) ∙ ap (with (amount inner)) (amount_choice (skips i t) [] b)) (block_is inner b')
       (next_less (chooser (skips i t)) (amount []) (amount b) (amount b') hb (amount inner) (omega arith));
 }
 
@@ -107,9 +95,6 @@ asks_refl a = record { arguments = λ e. e; named = λ p e. e }
 
 asks_trans : (a b c : Facts) → Asks a b → Asks b c → Asks a c
 asks_trans a b c h k = record { arguments = λ e. k.arguments (h.arguments e); named = λ p e. k.named p (h.named p e) }
-
-and_keeps : (a b c d : Bool) → (a ≡ true → c ≡ true) → (b ≡ true → d ≡ true) → (a && b) ≡ true → (c && d) ≡ true
-and_keeps a b c d h k e = let parts = and_cases a b e in ap (λ x. x && d) (h parts.0) ∙ k parts.1
 
 asks_both : (a a' b b' : Facts) → Asks a a' → Asks b b' → Asks (both a b) (both a' b')
 asks_both a a' b b' h k = record {

@@ -1,5 +1,5 @@
 -- Code in which the arms of a `switch` are reached by one jump means the same.
-use Rattle.std.proofs.Common.{arith, ◌≡◌, ℕ, zero, suc, ◌+◌, ◌*◌, ◌<◌, ◌≤◌, Bool, true, false, cond, eqb, ltb, List, [], ◌∷◌, map, length, refl, sym, ◌∙◌, ap, subst}
+use Rattle.std.proofs.Common.{arith, ◌≡◌, ℕ, suc, ◌+◌, ◌*◌, ◌<◌, ◌≤◌, Bool, true, false, cond, eqb, ltb, List, [], ◌∷◌, map, length, refl, sym, ◌∙◌, ap, subst}
 use Rattle.std.specs.Prelude.{slice_index}
 use Rattle.mv_num.specs.Words.{as_word}
 use Rattle.mv_ir.specs.declared.tree.Tree.{Tree}
@@ -18,7 +18,7 @@ use Rattle.mv_ir.proofs.Joining.{temps_enough}
 use Rattle.mv_ir.proofs.Keeping.{meaning_roll, layer_means}
 use Rattle.mv_arms.specs.Arms.{level, back, passed, Steered, skips, IsArm, AreArms, Arms, Nests, none, still, leave, again, branch, turns, block, switch, all, arm}
 use Rattle.mv_arms.specs.Walking.{with_code}
-use Rattle.mv_arms.proofs.Via.{via, Long, AllLong, IsVia, MeansVia, spend_via, nil_via, cons_via, either_via, via_block, long_block, block_via, loop_via, end_via}
+use Rattle.mv_arms.proofs.Via.{via, deeper_level, Long, AllLong, IsVia, MeansVia, spend_via, nil_via, cons_via, either_via, via_block, long_block, block_via, loop_via, end_via}
 use Rattle.mv_arms.proofs.Calm.{still_via}
 use Rattle.mv_arms.proofs.Steering.{same_right, passed_zero, skips_is, enclosed_runs, chosen_runs, ends_at_zero, tests_run}
 
@@ -42,15 +42,11 @@ ended (Leaves n s) f h = refl
 ended (Restarts n s) f h = refl
 ended (Ends e) f h = refl
 
-level_less : (levels : List ℕ) (k n : ℕ) → level (suc k ∷ levels) n ≡ suc (level (k ∷ levels) n)
-level_less levels k zero = refl
-level_less levels k (suc n) = omega arith
-
 -- out of one block more
 stepped_out : (levels : List ℕ) (k : ℕ) (o : Outcome) → Turns o → block_end (via (suc k ∷ levels) o) ≡ via (k ∷ levels) o
 stepped_out levels k (Next s) h = absurd h
-stepped_out levels k (Leaves n s) h = ap (λ j. block_end (Leaves j s)) (level_less levels k n)
-stepped_out levels k (Restarts n s) h = ap (λ j. block_end (Restarts j s)) (level_less levels k n)
+stepped_out levels k (Leaves n s) h = ap (λ j. block_end (Leaves j s)) (deeper_level levels k n)
+stepped_out levels k (Restarts n s) h = ap (λ j. block_end (Restarts j s)) (deeper_level levels k n)
 stepped_out levels k (Ends e) h = refl
 
 -- what is saved where a test of an arm is made

@@ -14,10 +14,11 @@ use Rattle.mv_ir.specs.declared.stm.Stm.TheViews.{out-roll-Stm}
 use Rattle.mv_ir.specs.declared.stm.Stm.TheOpen as stm
 use Rattle.mv_ir.specs.World.{Setting, Frame}
 use Rattle.mv_ir.specs.Trees as trees
-use Rattle.mv_ir.specs.Trees.{value, nodes}
+use Rattle.mv_ir.specs.Trees.{nodes}
 use Rattle.mv_ir.specs.Outcome.{State, Outcome, Next, Leaves, Restarts, Ends, Run, Bound, Meaning, spend, now, goes_on, then_do, block_end}
-use Rattle.mv_ir.specs.Meaning.{of_tree, with_temp, meaning, code_meaning}
+use Rattle.mv_ir.specs.Meaning.{of_tree, with_temp, step, meaning, code_meaning}
 use Rattle.mv_ir.specs.Rolled.{number, temp, set, choose, break, enclosed}
+use Rattle.mv_ir.proofs.Common.{same_next}
 use Rattle.mv_ir.proofs.Rolls.{value_roll}
 use Rattle.mv_ir.proofs.Keeping.{meaning_roll, one_meaning, joined_runs}
 use Rattle.mv_arms.specs.Arms.{passed, Steered, other, test, skips, AreArms}
@@ -68,19 +69,6 @@ passed_within (i ∷ places) p = by (passed_within places p) (ltb i p)
     by h true = omega (arith, h)
     by h false = omega arith
 
--- a statement that costs 8 and 3 for each node of its trees
-abbrev pub stepped : ℕ → Outcome → Run
-stepped n o = record { cost = 8 + 3 * n; outcome = o }
-
-pub same_next : (s u : State) → Next s ≡ Next u → s ≡ u
-same_next s u e = ap state e
-  where
-    state : Outcome → State
-    state (Next x) = x
-    state (Leaves n x) = x
-    state (Restarts n x) = x
-    state (Ends e) = s
-
 module _ (setting : Setting) (frame : Frame) where
   abbrev val : Tree → State → ℕ
   val = of_tree setting frame
@@ -104,11 +92,11 @@ module _ (setting : Setting) (frame : Frame) where
 
   -- ---- statements
 
-  pub set_runs : (t n : ℕ) (bound : Bound) (s : State) → m (set t (number n)) bound s ≡ stepped (nodes (number n)) (Next (with_temp s t n))
+  pub set_runs : (t n : ℕ) (bound : Bound) (s : State) → m (set t (number n)) bound s ≡ step setting frame (nodes (number n)) (Next (with_temp s t n))
   set_runs t n bound s =
-      ap (λ f. f bound s) (meaning_roll setting frame (stm.Set t (number n))) ∙ ap (λ v. stepped (nodes (number n)) (Next (with_temp s t v))) (number_is n s)
+      ap (λ f. f bound s) (meaning_roll setting frame (stm.Set t (number n))) ∙ ap (λ v. step setting frame (nodes (number n)) (Next (with_temp s t v))) (number_is n s)
 
-  pub leaving_runs : (t p k : ℕ) (bound : Bound) (s : State) → run (leaving t p k) bound s ≡ spend (8 + 3 * nodes (number p)) (stepped 0 (Leaves k (with_temp s t p)))
+  pub leaving_runs : (t p k : ℕ) (bound : Bound) (s : State) → run (leaving t p k) bound s ≡ spend (8 + 3 * nodes (number p)) (step setting frame 0 (Leaves k (with_temp s t p)))
   leaving_runs t p k bound s =
       ap (λ r. then_do r (run (break k ∷ []) bound)) (set_runs t p bound s) ∙ ap (spend (8 + 3 * nodes (number p))) (one_meaning setting frame (stm.Break k) bound (with_temp s t p))
 

@@ -1,6 +1,7 @@
 -- Jumps have targets where arms are reached by one jump, and bodies stay well formed.
-use Rattle.std.proofs.Common.{arith, ◌≡◌, ℕ, zero, suc, ◌+◌, ◌<◌, Bool, true, false, List, [], ◌∷◌, length, map, refl, sym, ◌∙◌, ap, subst, nat_lt}
+use Rattle.std.proofs.Common.{arith, ◌≡◌, ℕ, zero, suc, ◌+◌, ◌<◌, Bool, true, false, List, [], ◌∷◌, length, map, refl, sym, ◌∙◌, ap, subst}
 use Rattle.std.specs.Prelude.{◌&&◌, slice_get, unwrap_or}
+use Rattle.std.proofs.lemmas.Bool.{and_from}
 use Rattle.mv_num.proofs.Booleans.{and_cases, from_falsity}
 use Rattle.mv_ir.specs.declared.tree.Tree.{Tree}
 use Rattle.mv_ir.specs.declared.stm.Stm.{Stm, out-Stm}
@@ -11,20 +12,16 @@ use Rattle.mv_ir.specs.declared.stm.Stm.TheFolds.{map-Stm}
 use Rattle.mv_ir.specs.declared.body.Body.{Body}
 use Rattle.mv_ir.specs.WellFormed.{all_around, layer_targets, stm_targets, IsWellFormed}
 use Rattle.mv_ir.specs.Rolled.{number, set, choose, break, repeat, enclosed}
+use Rattle.mv_ir.proofs.Common.{and_keeps, lt_nat, nat_less}
 use Rattle.mv_ir.proofs.Rolls.{targets_roll}
 use Rattle.mv_fold.proofs.WellFormed.{Kept, code_well_formed}
 use Rattle.mv_arms.specs.Arms.{level, back, passed, Steered, other, test, layer_is_still, is_still, Arms, Nests, none, still, leave, again, branch, turns, block, switch, all, arm}
 use Rattle.mv_arms.specs.Walking.{leaving, with_code}
+use Rattle.mv_arms.proofs.Via.{same_level, deeper_level}
 use Rattle.mv_arms.proofs.Walked.{still_roll}
 use Rattle.mv_arms.proofs.Steering.{passed_within, are_count}
 use Rattle.mv_arms.proofs.Counts.{arms_ask, arms_no_greater}
 use Rattle.mv_arms.proofs.Thinning.{arms_have_temps}
-
-and_keeps : (a b c d : Bool) → (a ≡ true → c ≡ true) → (b ≡ true → d ≡ true) → (a && b) ≡ true → (c && d) ≡ true
-and_keeps a b c d h k e = let parts = and_cases a b e in ap (λ x. x && d) (h parts.0) ∙ k parts.1
-
-both_true : (a b : Bool) → a ≡ true → b ≡ true → (a && b) ≡ true
-both_true a b e f = ap (λ x. x && b) e ∙ f
 
 -- ---- what is around code
 
@@ -35,13 +32,6 @@ is_loop around n = unwrap_or (slice_get around n) false
 record Fits (levels : List ℕ) (o o' : List Bool) : Type 0 where
   pub leaves : (n : ℕ) → n < length o → level levels n < length o'
   pub restarts : (n : ℕ) → is_loop o n ≡ true → is_loop o' (level levels n) ≡ true
-
-same_level : (levels : List ℕ) (n : ℕ) → level levels n ≡ level levels n + 0
-same_level levels n = omega arith
-
-deeper_level : (levels : List ℕ) (k n : ℕ) → level (suc k ∷ levels) n ≡ suc (level (k ∷ levels) n)
-deeper_level levels k zero = refl
-deeper_level levels k (suc n) = omega arith
 
 fits_around : (levels : List ℕ) (x : Bool) (o o' : List Bool) → Fits levels o o' → Fits (0 ∷ levels) (x ∷ o) (x ∷ o')
 fits_around levels x o o' h = record { leaves = leaves; restarts = restarts }
@@ -76,12 +66,6 @@ fits_falses levels (suc k) o o' h =
 
 abbrev ok : List Stm → List Bool → Bool
 ok code = all_around (map stm_targets code)
-
-lt_nat : (a b : ℕ) → a < b → nat_lt a b ≡ true
-lt_nat a b lt = grind (arith, lt)
-
-nat_less : (a b : ℕ) → nat_lt a b ≡ true → a < b
-nat_less a b e = grind (arith, e)
 
 rolled : (x : Stm-F Stm) (o : List Bool) → stm_targets (roll-Stm x) o ≡ layer_targets (map-Stm Stm (List Bool → Bool) stm_targets x) o
 rolled x o = ap (λ f. f o) (targets_roll x)
@@ -118,15 +102,15 @@ choice_is c a b o = rolled (stm.If c a b) o
 
 steered_ok : (t : ℕ) (places : List ℕ) (tests tests' : List Stm) → Steered t places tests tests' → (o : List Bool) → length places < length o → ok tests' o ≡ true
 steered_ok t places tests tests' (other p) o lt =
-    both_true (stm_targets (set t (number p)) o) (stm_targets (break (passed places p)) o && true) (rolled (stm.Set t (number p)) o)
-    (both_true (stm_targets (break (passed places p)) o) true (jump_ok (passed places p) o (omega (arith, lt, passed_within places p))) refl)
+    and_from (stm_targets (set t (number p)) o) (stm_targets (break (passed places p)) o && true) (rolled (stm.Set t (number p)) o)
+    (and_from (stm_targets (break (passed places p)) o) true (jump_ok (passed places p) o (omega (arith, lt, passed_within places p))) refl)
 steered_ok t places tests tests' (test c p rest rest' h) o lt =
     let jumps = leaving t p (passed places p) in
     let first : ok jumps o ≡ true =
-    both_true (stm_targets (set t (number p)) o) (stm_targets (break (passed places p)) o && true) (rolled (stm.Set t (number p)) o)
-    (both_true (stm_targets (break (passed places p)) o) true (jump_ok (passed places p) o (omega (arith, lt, passed_within places p))) refl)
+    and_from (stm_targets (set t (number p)) o) (stm_targets (break (passed places p)) o && true) (rolled (stm.Set t (number p)) o)
+    (and_from (stm_targets (break (passed places p)) o) true (jump_ok (passed places p) o (omega (arith, lt, passed_within places p))) refl)
     in
-    both_true (stm_targets (choose c jumps []) o) (ok rest' o) (choice_is c jumps [] o ∙ both_true (ok jumps o) true first refl) (steered_ok t places rest rest' h o lt)
+    and_from (stm_targets (choose c jumps []) o) (ok rest' o) (choice_is c jumps [] o ∙ and_from (ok jumps o) true first refl) (steered_ok t places rest rest' h o lt)
 
 -- ---- what becomes of code
 
@@ -171,7 +155,7 @@ mutual
       let parts = and_cases (stm_targets (choose c a b) o) (ok rest o) g in
       let sides = and_cases (ok a o) (ok b o) (sym (choice_is c a b o) ∙ parts.0) in
       nests_reach temps l (enclosed x ∷ b') rest all_made hn o o' f parts.1
-      (both_true (stm_targets (enclosed x) w) (ok b' w) (rolled (stm.Block x) w ∙ e) (arms_reach temps (length rest ∷ l) b b' hb o w (fits_falses l (length rest) o o' f) sides.1))
+      (and_from (stm_targets (enclosed x) w) (ok b' w) (rolled (stm.Block x) w ∙ e) (arms_reach temps (length rest ∷ l) b b' hb o w (fits_falses l (length rest) o o' f) sides.1))
 
 fits_itself : (o : List Bool) → Fits [] o o
 fits_itself o = record { leaves = λ n lt. lt; restarts = λ n e. e }

@@ -17,6 +17,7 @@ use Rattle.mv_fold.proofs.Marks.{any_marked, marked_any, any_left, any_right, an
 use Rattle.mv_fold.proofs.Thinner.{or_both}
 use Rattle.mv_arms.specs.Arms.{level, back, passed, skips, Steered, other, test, IsArm, AreArms, layer_is_still, is_still, Arms, Nests, none, still, leave, again, branch, turns, block, switch, all, arm}
 use Rattle.mv_arms.specs.Walking.{leaving, with_code}
+use Rattle.mv_arms.proofs.Via.{same_level}
 use Rattle.mv_arms.proofs.Walked.{still_roll}
 use Rattle.mv_arms.proofs.Steering.{passed_within, are_count, same_left}
 
@@ -37,9 +38,6 @@ pub record Fits (levels : List ℕ) (r r' : Around) : Type 0 where
 
 fits_after : (levels : List ℕ) (r r' : Around) (b b' : Bool) → Fits levels r r' → From b b' → Fits levels (with_after r b) (with_after r' b')
 fits_after levels r r' b b' h k = record { next = k; leaves = h.leaves; restarts = h.restarts }
-
-same_level : (levels : List ℕ) (n : ℕ) → level levels n ≡ level levels n + 0
-same_level levels n = omega arith
 
 fits_block : (levels : List ℕ) (r r' : Around) → Fits levels r r' → Fits (0 ∷ levels) (around_block r) (around_block r')
 fits_block levels r r' h = record { next = h.next; leaves = leaves; restarts = restarts }
@@ -180,7 +178,9 @@ module _ (u : ℕ) where
   choice_first c a b ys r = ap (λ (f : Flow). f.live (with_after r (lives ys r))) (flow_roll u (stm.If c a b))
 
   choice_marks : (c : Tree) (a b ys : List Stm) (r : Around) →
-      marked (choose c a b ∷ ys) r ≡ any_of (((reads_temp u c || (lives a (with_after r (lives ys r)) || lives b (with_after r (lives ys r)))) ∷ (marks_in_order (map (flow u) a) (with_after r (lives ys r)) ++ marks_in_order (map (flow u) b) (with_after r (lives ys r)))) ++ marks_in_order (map (flow u) ys) r)
+      marked (choose c a b ∷ ys) r ≡
+      any_of (((reads_temp u c || (lives a (with_after r (lives ys r)) || lives b (with_after r (lives ys r)))) ∷
+      (marks_in_order (map (flow u) a) (with_after r (lives ys r)) ++ marks_in_order (map (flow u) b) (with_after r (lives ys r)))) ++ marks_in_order (map (flow u) ys) r)
   choice_marks c a b ys r = ap (λ (f : Flow). any_of (f.marks (with_after r (lives ys r)) ++ marks_in_order (map (flow u) ys) r)) (flow_roll u (stm.If c a b))
 
   -- ---- a jump

@@ -1,5 +1,5 @@
 -- A run and another whose jumps lead to the same loops and blocks, among which others stand: their parts, and what is put together from these.
-use Rattle.std.proofs.Common.{arith, ◌≡◌, ℕ, zero, suc, ◌≤◌, Bool, true, false, cond, List, [], ◌∷◌, length, refl, sym, ◌∙◌, ap, subst}
+use Rattle.std.proofs.Common.{arith, ◌≡◌, ℕ, zero, suc, ◌+◌, ◌≤◌, Bool, true, false, cond, List, [], ◌∷◌, length, refl, sym, ◌∙◌, ap, subst}
 use Rattle.mv_ir.specs.Outcome.{State, More, Outcome, Next, Leaves, Restarts, Ends, Run, Bound, Meaning, spend, now, goes_on, then_do, in_order, block_end, block, turn_end, turn, loop}
 use Rattle.mv_ir.specs.Meaning.{body_end}
 use Rattle.mv_arms.specs.Arms.{level}
@@ -28,6 +28,13 @@ pub record IsVia (temps : ℕ) (levels : List ℕ) (r r' : Run) : Type 0 where
 
 abbrev pub MeansVia : ℕ → List ℕ → Meaning → Meaning → Type 0
 MeansVia temps levels m m' = (bound : Bound) (s : State) → Long temps s → IsVia temps levels (m bound s) (m' bound s)
+
+pub same_level : (levels : List ℕ) (n : ℕ) → level levels n ≡ level levels n + 0
+same_level levels n = omega arith
+
+pub deeper_level : (levels : List ℕ) (k n : ℕ) → level (suc k ∷ levels) n ≡ suc (level (k ∷ levels) n)
+deeper_level levels k zero = refl
+deeper_level levels k (suc n) = omega arith
 
 level_same : (levels : List ℕ) (n : ℕ) → level (0 ∷ levels) (suc n) ≡ suc (level levels n)
 level_same levels n = omega arith

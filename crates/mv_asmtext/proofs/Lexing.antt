@@ -17,7 +17,9 @@ alone b n l h = rw h refl
 abbrev front_word : List ℕ → List Lexeme
 front_word s = word (take (prefix_len is_word_byte s) s) ∷ lexemes (drop (prefix_len is_word_byte s) s)
 
-longer : (b c : ℕ) (cs : List ℕ) (v : Bool) → is_word_byte c ≡ v → (is_word_byte c ≡ true → lexemes (c ∷ cs) ≡ front_word (c ∷ cs)) → (if v then lengthened b (lexemes (c ∷ cs)) else word (b ∷ []) ∷ lexemes (c ∷ cs)) ≡ word (take (1 + prefix_len is_word_byte (c ∷ cs)) (b ∷ c ∷ cs)) ∷ lexemes (drop (1 + prefix_len is_word_byte (c ∷ cs)) (b ∷ c ∷ cs))
+longer : (b c : ℕ) (cs : List ℕ) (v : Bool) → is_word_byte c ≡ v → (is_word_byte c ≡ true → lexemes (c ∷ cs) ≡ front_word (c ∷ cs))
+    → (if v then lengthened b (lexemes (c ∷ cs)) else word (b ∷ []) ∷ lexemes (c ∷ cs)) ≡ word
+    (take (1 + prefix_len is_word_byte (c ∷ cs)) (b ∷ c ∷ cs)) ∷ lexemes (drop (1 + prefix_len is_word_byte (c ∷ cs)) (b ∷ c ∷ cs))
 longer b c cs true g rest = joined b (prefix_len is_word_byte (c ∷ cs)) (c ∷ cs) (lexemes (c ∷ cs)) (rest g)
 longer b c cs false g rest = alone b (prefix_len is_word_byte (c ∷ cs)) (c ∷ cs) (rw g refl)
 

@@ -9,7 +9,9 @@ use Rattle.mv_asmtext.proofs.Pieces.{is_line_byte}
 use Rattle.std.specs.Bool.{MatchBool}
 use Rattle.mv_asmtext.proofs.Lexing.{one_more}
 
-ends : (b : ℕ) (bs : List ℕ) (v : Bool) → (length (drop (prefix_len is_line_byte bs) bs) ≡ 0 → lines_of bs ≡ take (prefix_len is_line_byte bs) bs ∷ []) → length (drop (cond (not v) (1 + prefix_len is_line_byte bs) 0) (b ∷ bs)) ≡ 0 → cond v ([] ∷ lines_of bs) (onto_first b (lines_of bs)) ≡ take (cond (not v) (1 + prefix_len is_line_byte bs) 0) (b ∷ bs) ∷ []
+ends : (b : ℕ) (bs : List ℕ) (v : Bool) → (length (drop (prefix_len is_line_byte bs) bs) ≡ 0 → lines_of bs ≡ take (prefix_len is_line_byte bs) bs ∷ [])
+    → length (drop (cond (not v) (1 + prefix_len is_line_byte bs) 0) (b ∷ bs)) ≡ 0
+    → cond v ([] ∷ lines_of bs) (onto_first b (lines_of bs)) ≡ take (cond (not v) (1 + prefix_len is_line_byte bs) 0) (b ∷ bs) ∷ []
 ends b bs true rest h = absurd (omega arith)
 ends b bs false rest h = let k = rw (one_more (prefix_len is_line_byte bs)) at h in rw (one_more (prefix_len is_line_byte bs), rest k) refl
 

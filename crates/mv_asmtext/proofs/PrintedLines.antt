@@ -111,7 +111,13 @@ instruction_length : (i : Instr) → Fits i → length (instruction_text (parts_
 unfolding instruction_text
 instruction_length i h =
     let p = parts_of i in
-    omega (arith, length-append (name_of p.mnemonic) (operands_text p (operands_of p.mnemonic)), short_length (name_of p.mnemonic) (mnemonic_word p.mnemonic), operands_length p (spellable i h) (operands_of p.mnemonic), few_operands p.mnemonic)
+    omega (
+      arith,
+      length-append (name_of p.mnemonic) (operands_text p (operands_of p.mnemonic)),
+      short_length (name_of p.mnemonic) (mnemonic_word p.mnemonic),
+      operands_length p (spellable i h) (operands_of p.mnemonic),
+      few_operands p.mnemonic,
+    )
 
 text_onward : (m : Mnemonic) (w : ℕ) (code : Code) → place_in (Instruction m) sections.Text (length code.text) (length code.globals) ≡ Some (place sections.Text (length (code.text ++ w ∷ [])) (length code.globals))
 text_onward m w code = rw (length_push code.text w) refl
@@ -166,7 +172,9 @@ filled_entry : (w : ℕ) → w < 2 ^ 32 → filled (elements_of Entry) (word (he
 unfolding filled filled_one elements_of
 filled_entry w h = rw (hex_back w h) refl
 
-directive_reads : (name : List ℕ) (op : Operation) (w : ℕ) → is_word name ≡ true → operation_named name ≡ Some op → filled (elements_of op) (word (hex_text w) ∷ []) no_operands ≡ Some (operands_with w) → body_of (lexemes (directive_text name w)) ≡ Some (body None (Some (with_operands op (operands_with w))))
+directive_reads : (name : List ℕ) (op : Operation) (w : ℕ) → is_word name ≡ true → operation_named name ≡ Some op
+    → filled (elements_of op) (word (hex_text w) ∷ []) no_operands ≡ Some (operands_with w)
+    → body_of (lexemes (directive_text name w)) ≡ Some (body None (Some (with_operands op (operands_with w))))
 directive_reads name op w h k l =
     ap body_of (directive_lexes name w h) ∙
     body_from name (word (hex_text w) ∷ []) (with_operands op (operands_with w)) (two_words name (hex_text w))

@@ -45,7 +45,9 @@ labels_push sites [] l h = rw h refl
 labels_push sites (k ∷ ls) l h = labels_push (with_name sites k k.label) ls l h
 
 module _ (words : ℕ) (sites : Sites) (l : Line) (code code' : Code) (last : put_line words sites code l ≡ Ok code') where
-  by_line : (ls : List Line) (n : ℕ) (r : Result Code Fault) → ((next : Code) → put_lines words sites next ls ≡ Ok code → put_lines words sites next (ls ++ l ∷ []) ≡ Ok code') → onward n (λ next. put_lines words sites next ls) r ≡ Ok code → onward n (λ next. put_lines words sites next (ls ++ l ∷ [])) r ≡ Ok code'
+  by_line : (ls : List Line) (n : ℕ) (r : Result Code Fault)
+      → ((next : Code) → put_lines words sites next ls ≡ Ok code → put_lines words sites next (ls ++ l ∷ []) ≡ Ok code')
+      → onward n (λ next. put_lines words sites next ls) r ≡ Ok code → onward n (λ next. put_lines words sites next (ls ++ l ∷ [])) r ≡ Ok code'
   by_line ls n (Ok next) rest h = rest next h
   by_line ls n (Err fault) rest h = cc
 
@@ -54,7 +56,8 @@ module _ (words : ℕ) (sites : Sites) (l : Line) (code code' : Code) (last : pu
   put_push [] c h = let e : c ≡ code = cc in rw (e, last) refl
   put_push (k ∷ ls) c h = by_line ls k.number (put_line words sites c k) (put_push ls) h
 
-line_put : (words : ℕ) (code code' : Code) (l : Line) (s : Statement) (n : Number) → l.label ≡ None → l.statement ≡ Some s → s.operands.value ≡ values.Number n → accepts words s.operation n ≡ true → put_statement code l.section s.operation s.operands n ≡ code' → put_line words [] code l ≡ Ok code'
+line_put : (words : ℕ) (code code' : Code) (l : Line) (s : Statement) (n : Number) → l.label ≡ None → l.statement ≡ Some s → s.operands.value ≡ values.Number n
+    → accepts words s.operation n ≡ true → put_statement code l.section s.operation s.operands n ≡ code' → put_line words [] code l ≡ Ok code'
 unfolding put_line
 line_put words code code' l s n h k v ok gives =
     let number : operand_of words [] s.operation l.address s.operands.value ≡ Ok n = rw (v, ok) refl in
@@ -232,7 +235,9 @@ unfolding labels_from put_lines
 nothing_reads words = record { at = refl; no_labels = refl; gives = refl }
 
 entry_steps : (words e : ℕ) → e < 2 ^ 32 → accepts words Entry (number false e) ≡ true → Steps words nothing_read (directive_text (codes ".entry") e) sections.Text (with_entry e)
-entry_steps words e h k = steps words nothing_read sections.Start sections.Text no_code (with_entry e) (nothing_reads words) (directive_text (codes ".entry") e) (entry_bytes e) (with_operands Entry (operands_with e)) (entry_reads e h) (number false e) refl k refl refl
+entry_steps words e h k =
+    steps words nothing_read sections.Start sections.Text no_code (with_entry e) (nothing_reads words) (directive_text (codes ".entry") e)
+    (entry_bytes e) (with_operands Entry (operands_with e)) (entry_reads e h) (number false e) refl k refl refl
 
 -- ---- length
 
@@ -253,7 +258,16 @@ printed_length : (code : Code) → FitsImage code → AreWords code.text → Are
 unfolding printed
 printed_length code fits text globals =
     let words : length (word_lines code.text) ≤ 64 * length code.text = rw (word_lines_are code.text) (lines_length word_text 64 word_length code.text text) in
-    omega (arith, words, data_text_length code.globals globals, fits.text, fits.globals, hex_length 8 code.entry, length-append (word_lines code.text) (data_text code.globals), length-append (hex 8 code.entry) (10 ∷ (word_lines code.text ++ data_text code.globals)))
+    omega (
+      arith,
+      words,
+      data_text_length code.globals globals,
+      fits.text,
+      fits.globals,
+      hex_length 8 code.entry,
+      length-append (word_lines code.text) (data_text code.globals),
+      length-append (hex 8 code.entry) (10 ∷ (word_lines code.text ++ data_text code.globals)),
+    )
 
 -- ---- the whole
 

@@ -48,7 +48,9 @@ entry_front (x ∷ xs) ys zero d h = refl
 entry_front (x ∷ xs) ys (suc i) d h = entry_front xs ys i d (omega arith)
 
 -- a register's name among those from an index on
-pub register_turn : (w name : List ℕ) (i : ℕ) → i < 64 → name ≡ get_or register_names i [] → position_from (λ n. bytes_eq n w) i (drop i register_names) ≡ cond (bytes_eq name w) (Some i) (position_from (λ n. bytes_eq n w) (i + 1) (drop (i + 1) register_names))
+pub register_turn : (w name : List ℕ) (i : ℕ) → i < 64 → name ≡ get_or register_names i []
+    → position_from (λ n. bytes_eq n w) i (drop i register_names) ≡ cond (bytes_eq name w) (Some i)
+    (position_from (λ n. bytes_eq n w) (i + 1) (drop (i + 1) register_names))
 register_turn w name i h e = at_drop_more (position_from (λ n. bytes_eq n w) i) register_names i [] h ∙ ap (λ y. cond (bytes_eq y w) (Some i) (position_from (λ n. bytes_eq n w) (i + 1) (drop (i + 1) register_names))) (sym e)
 
 pub operands_more : (p : Parts) (es : List Element) → 0 < length es → operands_text p es ≡ 32 ∷ elements_text p es

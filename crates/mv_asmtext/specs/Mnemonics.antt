@@ -67,7 +67,11 @@ name_of names.Ebreak = codes "ebreak"
 
 abbrev pub mnemonics : List Mnemonic
 mnemonics =
-    names.Lui ∷ names.Auipc ∷ names.Jal ∷ names.Jalr ∷ names.Beq ∷ names.Bne ∷ names.Blt ∷ names.Bge ∷ names.Bltu ∷ names.Bgeu ∷ names.Lb ∷ names.Lh ∷ names.Lw ∷ names.Lbu ∷ names.Lhu ∷ names.Sb ∷ names.Sh ∷ names.Sw ∷ names.Addi ∷ names.Slti ∷ names.Sltiu ∷ names.Xori ∷ names.Ori ∷ names.Andi ∷ names.Slli ∷ names.Srli ∷ names.Srai ∷ names.Add ∷ names.Sub ∷ names.Sll ∷ names.Slt ∷ names.Sltu ∷ names.Xor ∷ names.Srl ∷ names.Sra ∷ names.Or ∷ names.And ∷ names.Mul ∷ names.Mulh ∷ names.Mulhsu ∷ names.Mulhu ∷ names.Div ∷ names.Divu ∷ names.Rem ∷ names.Remu ∷ names.Fence ∷ names.FenceI ∷ names.Ecall ∷ names.Ebreak ∷ []
+    names.Lui ∷ names.Auipc ∷ names.Jal ∷ names.Jalr ∷ names.Beq ∷ names.Bne ∷ names.Blt ∷ names.Bge ∷ names.Bltu ∷ names.Bgeu ∷ names.Lb ∷ names.Lh
+    ∷ names.Lw ∷ names.Lbu ∷ names.Lhu ∷ names.Sb ∷ names.Sh ∷ names.Sw ∷ names.Addi ∷ names.Slti ∷ names.Sltiu ∷ names.Xori ∷ names.Ori
+    ∷ names.Andi ∷ names.Slli ∷ names.Srli ∷ names.Srai ∷ names.Add ∷ names.Sub ∷ names.Sll ∷ names.Slt ∷ names.Sltu ∷ names.Xor ∷ names.Srl
+    ∷ names.Sra ∷ names.Or ∷ names.And ∷ names.Mul ∷ names.Mulh ∷ names.Mulhsu ∷ names.Mulhu ∷ names.Div ∷ names.Divu ∷ names.Rem ∷ names.Remu
+    ∷ names.Fence ∷ names.FenceI ∷ names.Ecall ∷ names.Ebreak ∷ []
 
 -- the mnemonic that a word spells
 unfoldable pub mnemonic_named : List ℕ → Option Mnemonic

@@ -167,6 +167,7 @@ impl Mnemonic {
     pub fn name(self) -> &'static [u8]
         ensures { result.now ≡ name_of self }
     {
+        // An arm for each mnemonic.
         match self {
             Mnemonic::Lui => b"lui",
             Mnemonic::Auipc => b"auipc",
@@ -225,6 +226,7 @@ impl Mnemonic {
     pub fn operands(self) -> &'static [Element]
         ensures { result.now ≡ operands_of self }
     {
+        // The arms name every mnemonic.
         match self {
             Mnemonic::Lui | Mnemonic::Auipc => &UPPER,
             Mnemonic::Jal => &JUMP,
@@ -277,6 +279,7 @@ impl Mnemonic {
     pub fn field(self) -> Field
         ensures { result ≡ field_of self }
     {
+        // The arms name every mnemonic.
         match self {
             Mnemonic::Lui | Mnemonic::Auipc => Field::Upper20,
             Mnemonic::Jal => Field::Offset21,
@@ -335,6 +338,7 @@ impl Mnemonic {
         let rd = registers.rd.number();
         let rs1 = registers.rs1.number();
         let rs2 = registers.rs2.number();
+        // An arm for each mnemonic.
         match self {
             Mnemonic::Lui => Instr::Lui { rd, imm },
             Mnemonic::Auipc => Instr::Auipc { rd, imm },

@@ -38,6 +38,7 @@ pub fn taken_apart(instr: Instr) -> Parts
     requires { Fits instr }
     ensures { result ≡ parts_of instr }
 {
+    // An arm for each instruction.
     match instr {
         Instr::Lui { rd, imm } => with_operands(Mnemonic::Lui, rd, 0, 0, imm),
         Instr::Auipc { rd, imm } => with_operands(Mnemonic::Auipc, rd, 0, 0, imm),

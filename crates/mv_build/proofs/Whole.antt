@@ -13,7 +13,8 @@ use Rattle.mv_build.specs.declared.code.Coded.{Coded}
 use Rattle.mv_build.specs.Compiled.{IsCode, IsLinkedTo, IsSound, parts_of}
 use Rattle.mv_build.specs.Images.{IsImageOf}
 
-module _ (can_be_linked : PartsCanBeLinked) (leads : RowsLeadToVariants) (tabled : ImagesHaveTables) (show : ImagesShowBindings) (behave : BuiltProgramsBehave) (p : Program) (sound : IsSound p) (c : Coded) (code : IsCode p c) (image : Fields)
+module _ (can_be_linked : PartsCanBeLinked) (leads : RowsLeadToVariants) (tabled : ImagesHaveTables) (show : ImagesShowBindings)
+    (behave : BuiltProgramsBehave) (p : Program) (sound : IsSound p) (c : Coded) (code : IsCode p c) (image : Fields)
     (to : IsLinkedTo p (parts_of p c.functions c.attributed) image) where
   abbrev parts : Parts
   parts = parts_of p c.functions c.attributed

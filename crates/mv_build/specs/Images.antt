@@ -46,5 +46,5 @@ pub record IsImageOf (p : Program) (bodies : List Body) (tables : List (List Var
       slice_get tables n ≡ Some variants → LeadsToVariants p g image variants n
   pub behaves : BehavesAlways p image
   pub loads : LoadsOpenly p parts linked.sizing image
-  pub fits : (action : Action) → machine.fits image.switches action ≡ source.fits p action
+  pub fits : (action : Action) → machine.fits_rows image.switches action ≡ source.fits p action
   pub shows : ShowsBindings p image

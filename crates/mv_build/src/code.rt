@@ -1,8 +1,7 @@
 //! The bodies and variants of a program's functions, and their code.
 
-ghost use Rattle.std.specs.Prelude.{◌≡◌, map, length, All, IfErr, IfOk, OnOk};
+ghost use Rattle.std.specs.Prelude.{◌≡◌, map, length, IfErr, IfOk, OnOk};
 ghost use Rattle.mv_lower_spec.specs.Functions.{lower_function};
-ghost use Rattle.mv_select.specs.Bodies.SelectedBodies.{HasWords};
 ghost use Rattle.mv_variants.specs.Bound.Shorts.{AreShortsOf};
 ghost use Rattle.mv_parts.specs.Codes.{FramesFit};
 ghost use Rattle.mv_build.specs.Compiled.{AreVaried, IsCode, IsSound, OnRefusal, PassesVarying};
@@ -21,7 +20,6 @@ use mv_num::regions;
 use mv_parts::{
     attributed_numbers, codes_of, generics_of, part_functions, shorts_of, size_of, tables_of,
 };
-use mv_select::bodies::code_has_words;
 use mv_variants::Variant;
 use mv_variants::size::Size;
 use std::alloc::Global;
@@ -64,7 +62,6 @@ pub(crate) fn code_of(alloc: Global, program: &Program) -> Result<Coded, BuildEr
         variants,
         attributed,
     } = attributed_code(alloc, program, shorts.as_slice(), lowered.as_slice(), size)?;
-    have_words(generics.as_slice());
     Ok(Coded {
         generics,
         variants,
@@ -116,13 +113,4 @@ fn attributed_code(
         variants,
         attributed,
     })
-}
-
-/// The constants in bodies have 32 bits. The walk changes nothing; it is for the clause.
-fn have_words(bodies: &[Body])
-    ensures { All (λ b. HasWords b.code) bodies.now }
-{
-    for body in bodies {
-        code_has_words(&body.code);
-    }
 }

@@ -28,7 +28,8 @@ carried_is_so b =
       switches = refl;
     }
 
-pub body_is_carried : (b : Body) (arrays : List ℕ) (code : List Stm) (rooms : List Room) (marked switches : List ℕ) → arrays ≡ b.arrays → code ≡ (carried_code b.temps outermost (Knowing []) b.code).code → rooms ≡ b.rooms → marked ≡ b.marked → switches ≡ b.switches →
+pub body_is_carried : (b : Body) (arrays : List ℕ) (code : List Stm) (rooms : List Room) (marked switches : List ℕ) → arrays ≡ b.arrays →
+    code ≡ (carried_code b.temps outermost (Knowing []) b.code).code → rooms ≡ b.rooms → marked ≡ b.marked → switches ≡ b.switches →
     IsCarried b (record { params = b.params; temps = b.temps; arrays = arrays; code = code; rooms = rooms; marked = marked; switches = switches })
 body_is_carried b arrays code rooms marked switches ea e er em es =
     let same : record b { code = (carried_code b.temps outermost (Knowing []) b.code).code } ≡ record { params = b.params; temps = b.temps; arrays = arrays; code = code; rooms = rooms; marked = marked; switches = switches } =

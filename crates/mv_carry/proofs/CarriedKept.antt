@@ -1,7 +1,7 @@
 -- Carrying numbers keeps the meaning, at no greater cost.
 use Rattle.std.proofs.Common.{arith, ◌≡◌, ℕ, zero, suc, ◌≤◌, Bool, true, false, not, cond, eqb, List, [], ◌∷◌, ◌++◌, length, map, Option, Some, None, refl, sym, ◌∙◌, ap, subst, append-nil, append_assoc}
 use Rattle.std.specs.Prelude.{◌||◌, slice_set}
-use Rattle.std.proofs.lemmas.Bool.{eq-eqb, eqb-true}
+use Rattle.std.proofs.lemmas.Bool.{eq-eqb, eqb-true, not-true, or_parts}
 use Rattle.std.proofs.lemmas.List.{length-set}
 use Rattle.mv_num.proofs.Booleans.{from_falsity}
 use Rattle.mv_ast.specs.Names.{any_of}
@@ -21,12 +21,14 @@ use Rattle.mv_ir.specs.Meaning.{statement, meaning, code_meaning, entry_state}
 use Rattle.mv_ir.specs.Keeps.{KeepsBody}
 use Rattle.mv_ir.specs.Live.{is}
 use Rattle.mv_ir.proofs.Induction.{Each, each_append, StmChildren, stm_ind, stms_ind}
+use Rattle.mv_ir.proofs.Common.{each_weaker, each_first, each_right}
 use Rattle.mv_ir.proofs.Joining.{temps_enough}
 use Rattle.mv_ir.proofs.Keeping.{map_append, one_meaning, layer_means}
 use Rattle.mv_ir.proofs.Relating.{Rel, StateRel, Places, under, in_block, in_loop, RunRel, MeaningRel, append_rel, places_weaker, meaning_weaker, block_rel, loop_rel, end_same}
 use Rattle.mv_ir.proofs.RelatedStatements.{from_temps, SameIn, SameTreesIn, SameCalleeIn, Puts, Writes, set_global_rel, divide_rel, check_rel, read_rel, write_rel, zero_rel, if_rel, break_rel, back_rel, call_rel, known_rel, return_rel}
 use Rattle.mv_fold.specs.Simple.{constant}
-use Rattle.mv_fold.proofs.SimpleKept.{constant_value, not_zero}
+use Rattle.mv_fold.proofs.Levels.{not_zero}
+use Rattle.mv_fold.proofs.SimpleKept.{constant_value}
 use Rattle.mv_carry.specs.declared.facts.Fact.{Fact}
 use Rattle.mv_carry.specs.declared.facts.Reach.{Reach}
 use Rattle.mv_carry.specs.declared.facts.Reach.TheVariants.{Never, Knowing}
@@ -34,7 +36,7 @@ use Rattle.mv_carry.specs.declared.walk.Within.{Within}
 use Rattle.mv_carry.specs.declared.walk.Walk.{Walk}
 use Rattle.mv_carry.specs.Facts.{without, behind_write, known, with_facts, meet}
 use Rattle.mv_carry.specs.Carrying.{carried_tree, carried_callee, layer_writes, writes, unwritten, begun, put, wrote_result, jumped, leaves, chosen, looped, looked, outermost, inner, Step, in_order, carried_layer, step, carried_code, start}
-use Rattle.mv_carry.proofs.Knowing.{Holds, Hold, Others, At, not_true, hold_set, hold_known, each_as, each_filter, each_passes, meet_left, meet_right, at_without, at_behind}
+use Rattle.mv_carry.proofs.Knowing.{Holds, Hold, Others, At, hold_set, hold_known, each_filter, each_passes, meet_left, meet_right, at_without, at_behind}
 use Rattle.mv_carry.proofs.TreesKept.{carried_value, carried_nodes}
 use Rattle.mv_carry.proofs.Equations.{writes_roll, walk_roll, same_start}
 
@@ -49,28 +51,14 @@ Unwritten s fs = Each (λ f. writes f.temp s ≡ false) fs
 abbrev pub UnwrittenIn : List Stm → List Fact → Type 0
 UnwrittenIn b fs = Each (IsUnwrittenIn b) fs
 
-first_false : (a b : Bool) → (a || b) ≡ false → a ≡ false
-first_false true b h = from_falsity (sym h)
-first_false false b h = refl
-
-second_false : (a b : Bool) → (a || b) ≡ false → b ≡ false
-second_false true b h = from_falsity (sym h)
-second_false false b h = h
-
-each_left : {A : Type 0} (P : A → Type 0) (xs ys : List A) → Each P (xs ++ ys) → Each P xs
-each_left P [] ys h = tt
-each_left P (x ∷ xs) ys h = (h.0, each_left P xs ys h.1)
-
-each_right : {A : Type 0} (P : A → Type 0) (xs ys : List A) → Each P (xs ++ ys) → Each P ys
-each_right P [] ys h = h
-each_right P (x ∷ xs) ys h = each_right P xs ys h.1
-
 -- what a statement doesn't write, by its layer
 unwritten_layer : (x : Stm-F Stm) (fs : List Fact) → Unwritten (roll-Stm x) fs → Each (λ f. layer_writes f.temp (map-Stm Stm Bool (writes f.temp) x) ≡ false) fs
-unwritten_layer x fs = each_as (λ (f : Fact). writes f.temp (roll-Stm x) ≡ false) (λ (f : Fact). layer_writes f.temp (map-Stm Stm Bool (writes f.temp) x) ≡ false) (λ f h. sym (writes_roll f.temp x) ∙ h) fs
+unwritten_layer x fs = each_weaker (λ (f : Fact). writes f.temp (roll-Stm x) ≡ false) (λ (f : Fact). layer_writes f.temp (map-Stm Stm Bool (writes f.temp) x) ≡ false) (λ f h. sym (writes_roll f.temp x) ∙ h) fs
 
 start_unwritten : (b : List Stm) (fs : List Fact) → UnwrittenIn b (unwritten (λ t. any_of (map (writes t) b)) fs)
-start_unwritten b fs = each_as (λ (f : Fact). not (any_of (map (writes f.temp) b)) ≡ true) (IsUnwrittenIn b) (λ f h. not_true (any_of (map (writes f.temp) b)) h) (unwritten (λ t. any_of (map (writes t) b)) fs) (each_passes (λ (f : Fact). not (any_of (map (writes f.temp) b))) fs)
+start_unwritten b fs =
+    each_weaker (λ (f : Fact). not (any_of (map (writes f.temp) b)) ≡ true) (IsUnwrittenIn b) (λ f h. not-true (any_of (map (writes f.temp) b)) h)
+    (unwritten (λ t. any_of (map (writes t) b)) fs) (each_passes (λ (f : Fact). not (any_of (map (writes f.temp) b))) fs)
 
 module _ (temps : ℕ) (setting : Setting) (frame : Frame) where
   abbrev m : Stm → Meaning
@@ -115,8 +103,8 @@ module _ (temps : ℕ) (setting : Setting) (frame : Frame) where
   kids : (b : List Stm) → Each IsKept b → (l : Within) (fs : List Fact) → IsThere l fs → UnwrittenIn b fs → (r : Reach) (done : List Stm) (w : Walk) → Walked fs r done w → Walked fs r (done ++ b) (in_order l (map (step temps) b) w)
   kids [] h l fs i u r done w k = subst (λ c. Walked fs r c w) (sym (append-nil done)) k
   kids (s ∷ b) h l fs i u r done w k =
-      let first : Unwritten s fs = each_as (IsUnwrittenIn (s ∷ b)) (λ (f : Fact). writes f.temp s ≡ false) (λ f e. first_false (writes f.temp s) (any_of (map (writes f.temp) b)) e) fs u in
-      let rest : UnwrittenIn b fs = each_as (IsUnwrittenIn (s ∷ b)) (IsUnwrittenIn b) (λ f e. second_false (writes f.temp s) (any_of (map (writes f.temp) b)) e) fs u in
+      let first : Unwritten s fs = each_weaker (IsUnwrittenIn (s ∷ b)) (λ (f : Fact). writes f.temp s ≡ false) (λ f e. (or_parts (writes f.temp s) (any_of (map (writes f.temp) b)) e).0) fs u in
+      let rest : UnwrittenIn b fs = each_weaker (IsUnwrittenIn (s ∷ b)) (IsUnwrittenIn b) (λ f e. (or_parts (writes f.temp s) (any_of (map (writes f.temp) b)) e).1) fs u in
       let next = kids b h.1 l fs i rest r (done ++ s ∷ []) ((step temps s).walk l w) (h.0 l fs i first r done w k) in
       subst (λ c. Walked fs r c (in_order l (map (step temps) b) ((step temps s).walk l w))) (append_assoc done (s ∷ []) b) next
 
@@ -142,7 +130,8 @@ module _ (temps : ℕ) (setting : Setting) (frame : Frame) where
   left_weaker fs l l' f f' h k (suc n) xs ys e = (e.0, k xs e.1)
 
   more : (fs : List Fact) (r : Reach) (done : List Stm) (w : Walk) (x y : Stm-F Stm) (here left far : Reach) → Walked fs r done w → Wider w.left left → Wider w.far far →
-      MeaningRel (Here fs w.here) (places fs here left far) (layer_means setting frame x) (layer_means setting frame y) → Walked fs r (done ++ roll-Stm x ∷ []) (record { code = w.code ++ roll-Stm y ∷ []; here = here; left = left; far = far })
+      MeaningRel (Here fs w.here) (places fs here left far) (layer_means setting frame x) (layer_means setting frame y) →
+      Walked fs r (done ++ roll-Stm x ∷ []) (record { code = w.code ++ roll-Stm y ∷ []; here = here; left = left; far = far })
   more fs r done w x y here left far k hl hf h =
       let q = places fs here left far in
       let before = places_weaker (Here fs r) (places fs w.here w.left w.far) (places fs w.here left far) _ _ (λ xs ys e. e) (left_weaker fs w.left left w.far far hl hf) (λ n xs ys e. e) k in
@@ -180,7 +169,7 @@ module _ (temps : ℕ) (setting : Setting) (frame : Frame) where
   writes_in fs r t o xs ys v e = (set_shared t v v fs xs ys o refl e.0, at_without t v r xs e.1)
 
   others : (t : ℕ) (fs : List Fact) → Each (λ f. eqb t f.temp ≡ false) fs → Others t fs
-  others t = each_as (λ (f : Fact). eqb t f.temp ≡ false) (λ (f : Fact). eqb f.temp t ≡ false) (λ f e. turned t f.temp e)
+  others t = each_weaker (λ (f : Fact). eqb t f.temp ≡ false) (λ (f : Fact). eqb f.temp t ≡ false) (λ f e. turned t f.temp e)
     where
       turned : (a b : ℕ) → eqb a b ≡ false → eqb b a ≡ false
       turned a b e = by (eqb b a) refl
@@ -257,7 +246,8 @@ module _ (temps : ℕ) (setting : Setting) (frame : Frame) where
   third_of : (a b c : Reach) → Wider c (meet a (meet b c))
   third_of a b c xs h = meet_right a (meet b c) xs (meet_right b c xs h)
 
-  chosen_kept : (fs : List Fact) (r : Reach) (done : List Stm) (w : Walk) (t : Tree) (a b : List Stm) (a' b' : Walk) (c : Option ℕ) → constant (carried_tree (known w.here) t) ≡ c → Walked fs r done w → Walked fs w.here a a' → Walked fs w.here b b' →
+  chosen_kept : (fs : List Fact) (r : Reach) (done : List Stm) (w : Walk) (t : Tree) (a b : List Stm) (a' b' : Walk) (c : Option ℕ) →
+      constant (carried_tree (known w.here) t) ≡ c → Walked fs r done w → Walked fs w.here a a' → Walked fs w.here b b' →
       Walked fs r (done ++ roll-Stm (stm.If t a b) ∷ []) (chosen c (carried_tree (known w.here) t) a' b' w)
   chosen_kept fs r done w t a b a' b' None e k ha hb =
       let here = meet a'.here b'.here in
@@ -290,7 +280,8 @@ module _ (temps : ℕ) (setting : Setting) (frame : Frame) where
   together ks fs xs ys k h = record { same = h.same; long = h.long; hold = each_append (Holds xs) ks fs k h.hold }
 
   -- what holds where a statement leaves what stands around it, from what holds where the code in it leaves that
-  outwards : (ks fs : List Fact) (next : Rel) (inside left far far' : Reach) → ((xs ys : List ℕ) → Here (ks ++ fs) inside xs ys → next xs ys) → (n : ℕ) (xs ys : List ℕ) → Left (ks ++ fs) inside far n xs ys → under next next n (Left fs (meet left far) (meet far' far)) xs ys
+  outwards : (ks fs : List Fact) (next : Rel) (inside left far far' : Reach) → ((xs ys : List ℕ) → Here (ks ++ fs) inside xs ys → next xs ys) →
+      (n : ℕ) (xs ys : List ℕ) → Left (ks ++ fs) inside far n xs ys → under next next n (Left fs (meet left far) (meet far' far)) xs ys
   outwards ks fs next inside left far far' h zero xs ys e = h xs ys e
   outwards ks fs next inside left far far' h (suc zero) xs ys e = (weaken ks fs xs ys e.0, meet_right left far xs e.1)
   outwards ks fs next inside left far far' h (suc (suc n)) xs ys e = (weaken ks fs xs ys e.0, meet_right far' far xs e.1)
@@ -331,7 +322,7 @@ module _ (temps : ℕ) (setting : Setting) (frame : Frame) where
       by (suc n) =
           let ks = unwritten (λ t. any_of (map (writes t) b)) gs in
           meaning_weaker (Shared (ks ++ fs)) (Here fs (Knowing gs)) _ _ _ (λ xs ys e. together ks fs xs ys (each_filter (Holds xs) (λ (f : Fact). not (any_of (map (writes f.temp) b))) gs e.1) e.0)
-          (looped_kept ks fs b (Knowing ks) (record { apart = start_unwritten b gs; there = λ xs k. each_left (Holds xs) ks fs k }) h u l left far)
+          (looped_kept ks fs b (Knowing ks) (record { apart = start_unwritten b gs; there = λ xs k. each_first (Holds xs) ks fs k }) h u l left far)
 
   block_kept : (l : Within) (fs : List Fact) → IsThere l fs → (r : Reach) (b : List Stm) → Each IsKept b → UnwrittenIn b fs → (left far : Reach) →
       let w = carried_code temps l r b in
@@ -350,45 +341,57 @@ module _ (temps : ℕ) (setting : Setting) (frame : Frame) where
   -- ---- statements
 
   -- where nothing is written
-  plain : (fs : List Fact) (r : Reach) (done : List Stm) (w : Walk) (x y : Stm-F Stm) → Walked fs r done w → MeaningRel (Here fs w.here) (places fs w.here w.left w.far) (layer_means setting frame x) (layer_means setting frame y) → Walked fs r (done ++ roll-Stm x ∷ []) (put (roll-Stm y) w)
+  plain : (fs : List Fact) (r : Reach) (done : List Stm) (w : Walk) (x y : Stm-F Stm) → Walked fs r done w →
+      MeaningRel (Here fs w.here) (places fs w.here w.left w.far) (layer_means setting frame x) (layer_means setting frame y) →
+      Walked fs r (done ++ roll-Stm x ∷ []) (put (roll-Stm y) w)
   plain fs r done w x y k h = more fs r done w x y w.here w.left w.far k (λ xs e. e) (λ xs e. e) h
 
   -- behind a write, and behind a jump
-  other : (fs : List Fact) (r : Reach) (done : List Stm) (w : Walk) (x y : Stm-F Stm) (here : Reach) → Walked fs r done w → MeaningRel (Here fs w.here) (places fs here w.left w.far) (layer_means setting frame x) (layer_means setting frame y) →
+  other : (fs : List Fact) (r : Reach) (done : List Stm) (w : Walk) (x y : Stm-F Stm) (here : Reach) → Walked fs r done w →
+      MeaningRel (Here fs w.here) (places fs here w.left w.far) (layer_means setting frame x) (layer_means setting frame y) →
       Walked fs r (done ++ roll-Stm x ∷ []) (record { code = w.code ++ roll-Stm y ∷ []; here = here; left = w.left; far = w.far })
   other fs r done w x y here k h = more fs r done w x y here w.left w.far k (λ xs e. e) (λ xs e. e) h
 
   break_kept : (fs : List Fact) (r : Reach) (done : List Stm) (w : Walk) (n : ℕ) → Walked fs r done w → Walked fs r (done ++ roll-Stm (stm.Break n) ∷ []) (put (roll-Stm (stm.Break n)) (jumped (leaves n w)))
-  break_kept fs r done w zero k = more fs r done w (stm.Break 0) (stm.Break 0) Never (meet w.left w.here) w.far k (meet_left w.left w.here) (λ xs e. e) (break_rel setting frame (Here fs w.here) _ 0 (λ xs ys e. (e.0, meet_right w.left w.here xs e.1)))
+  break_kept fs r done w zero k =
+      more fs r done w (stm.Break 0) (stm.Break 0) Never (meet w.left w.here) w.far k (meet_left w.left w.here) (λ xs e. e)
+      (break_rel setting frame (Here fs w.here) _ 0 (λ xs ys e. (e.0, meet_right w.left w.here xs e.1)))
   break_kept fs r done w (suc n) k =
       more fs r done w (stm.Break (suc n)) (stm.Break (suc n)) Never w.left (meet w.far w.here) k (λ xs e. e) (meet_left w.far w.here) (break_rel setting frame (Here fs w.here) _ (suc n) (λ xs ys e. (e.0, meet_right w.far w.here xs e.1)))
 
   -- that a statement is left, with a result that may be written
-  with_result : (fs : List Fact) (r : Reach) (done : List Stm) (w : Walk) (x y : Stm-F Stm) (t : Option ℕ) → Walked fs r done w → MeaningRel (Here fs w.here) (places fs (result_here t w) w.left w.far) (layer_means setting frame x) (layer_means setting frame y) → Walked fs r (done ++ roll-Stm x ∷ []) (put (roll-Stm y) (wrote_result t w))
+  with_result : (fs : List Fact) (r : Reach) (done : List Stm) (w : Walk) (x y : Stm-F Stm) (t : Option ℕ) → Walked fs r done w →
+      MeaningRel (Here fs w.here) (places fs (result_here t w) w.left w.far) (layer_means setting frame x) (layer_means setting frame y) →
+      Walked fs r (done ++ roll-Stm x ∷ []) (put (roll-Stm y) (wrote_result t w))
   with_result fs r done w x y t k h = subst (Walked fs r (done ++ roll-Stm x ∷ [])) (sym (result_walk t (roll-Stm y) w)) (other fs r done w x y (result_here t w) k h)
 
   abbrev IsUnwrittenInEither : List Stm → List Stm → Fact → Type 0
   IsUnwrittenInEither a b f = (any_of (map (writes f.temp) a) || any_of (map (writes f.temp) b)) ≡ false
 
   first_unwritten : (a b : List Stm) (fs : List Fact) → Each (IsUnwrittenInEither a b) fs → UnwrittenIn a fs
-  first_unwritten a b = each_as (IsUnwrittenInEither a b) (IsUnwrittenIn a) (λ f e. first_false (any_of (map (writes f.temp) a)) (any_of (map (writes f.temp) b)) e)
+  first_unwritten a b = each_weaker (IsUnwrittenInEither a b) (IsUnwrittenIn a) (λ f e. (or_parts (any_of (map (writes f.temp) a)) (any_of (map (writes f.temp) b)) e).0)
 
   second_unwritten : (a b : List Stm) (fs : List Fact) → Each (IsUnwrittenInEither a b) fs → UnwrittenIn b fs
-  second_unwritten a b = each_as (IsUnwrittenInEither a b) (IsUnwrittenIn b) (λ f e. second_false (any_of (map (writes f.temp) a)) (any_of (map (writes f.temp) b)) e)
+  second_unwritten a b = each_weaker (IsUnwrittenInEither a b) (IsUnwrittenIn b) (λ f e. (or_parts (any_of (map (writes f.temp) a)) (any_of (map (writes f.temp) b)) e).1)
 
-  kept_layer : (x : Stm-F Stm) → StmChildren IsKept x → (l : Within) (fs : List Fact) → IsThere l fs → Each (λ f. layer_writes f.temp (map-Stm Stm Bool (writes f.temp) x) ≡ false) fs → (r : Reach) (done : List Stm) (w : Walk) → Walked fs r done w →
+  kept_layer : (x : Stm-F Stm) → StmChildren IsKept x → (l : Within) (fs : List Fact) → IsThere l fs →
+      Each (λ f. layer_writes f.temp (map-Stm Stm Bool (writes f.temp) x) ≡ false) fs → (r : Reach) (done : List Stm) (w : Walk) → Walked fs r done w →
       Walked fs r (done ++ roll-Stm x ∷ []) (carried_layer temps (map-Stm Stm Step (step temps) x) l w)
   kept_layer (stm.Set t v) h l fs c u r done w k = other fs r done w (stm.Set t v) (stm.Set t (carried_tree (known w.here) v)) _ k (learns fs w.here w.left w.far t v (others t fs u))
   kept_layer (stm.SetGlobal g v) h l fs c u r done w k = plain fs r done w (stm.SetGlobal g v) (stm.SetGlobal g (carried_tree (known w.here) v)) k (set_global_rel setting frame (Here fs w.here) _ g v _ (tree_in fs w.here v) (λ xs ys e. e))
   kept_layer (stm.Divide t o a b) h l fs c u r done w k =
-      other fs r done w (stm.Divide t o a b) (stm.Divide t o (carried_tree (known w.here) a) (carried_tree (known w.here) b)) _ k (divide_rel setting frame (Here fs w.here) _ t t o a _ b _ (tree_in fs w.here a) (tree_in fs w.here b) (writes_in fs w.here t (others t fs u)))
+      other fs r done w (stm.Divide t o a b) (stm.Divide t o (carried_tree (known w.here) a) (carried_tree (known w.here) b)) _ k
+      (divide_rel setting frame (Here fs w.here) _ t t o a _ b _ (tree_in fs w.here a) (tree_in fs w.here b) (writes_in fs w.here t (others t fs u)))
   kept_layer (stm.Check a i) h l fs c u r done w k = plain fs r done w (stm.Check a i) (stm.Check a (carried_tree (known w.here) i)) k (check_rel setting frame (Here fs w.here) _ a i _ (tree_in fs w.here i) (λ xs ys e. e))
-  kept_layer (stm.Read t a i) h l fs c u r done w k = other fs r done w (stm.Read t a i) (stm.Read t a (carried_tree (known w.here) i)) _ k (read_rel setting frame (Here fs w.here) _ t t a i _ (tree_in fs w.here i) (writes_in fs w.here t (others t fs u)))
+  kept_layer (stm.Read t a i) h l fs c u r done w k =
+      other fs r done w (stm.Read t a i) (stm.Read t a (carried_tree (known w.here) i)) _ k
+      (read_rel setting frame (Here fs w.here) _ t t a i _ (tree_in fs w.here i) (writes_in fs w.here t (others t fs u)))
   kept_layer (stm.Write a i v) h l fs c u r done w k =
       plain fs r done w (stm.Write a i v) (stm.Write a (carried_tree (known w.here) i) (carried_tree (known w.here) v)) k (write_rel setting frame (Here fs w.here) _ a i _ v _ (tree_in fs w.here i) (tree_in fs w.here v) (λ xs ys e. e))
   kept_layer (stm.Zero a) h l fs c u r done w k = plain fs r done w (stm.Zero a) (stm.Zero a) k (zero_rel setting frame (Here fs w.here) _ a (λ xs ys e. e))
   kept_layer (stm.If t a b) h l fs c u r done w k =
-      chosen_kept fs r done w t a b (carried_code temps l w.here a) (carried_code temps l w.here b) (constant (carried_tree (known w.here) t)) refl k (code_walked a h.0 l fs c (first_unwritten a b fs u) w.here) (code_walked b h.1 l fs c (second_unwritten a b fs u) w.here)
+      chosen_kept fs r done w t a b (carried_code temps l w.here a) (carried_code temps l w.here b) (constant (carried_tree (known w.here) t)) refl k
+      (code_walked a h.0 l fs c (first_unwritten a b fs u) w.here) (code_walked b h.1 l fs c (second_unwritten a b fs u) w.here)
   kept_layer (stm.Loop b) h l fs c u r done w k =
       let st = start l b w.here in
       let turn = carried_code temps (inner l st) st b in
@@ -401,9 +404,12 @@ module _ (temps : ℕ) (setting : Setting) (frame : Frame) where
   kept_layer (stm.Back n) h l fs c u r done w k = other fs r done w (stm.Back n) (stm.Back n) Never k (back_rel setting frame (Here fs w.here) _ n (λ xs ys e. e.0))
   kept_layer (stm.Call t f args) h l fs c u r done w k =
       with_result fs r done w (stm.Call t f args) (stm.Call t (carried_callee (known w.here) f) (map (carried_tree (known w.here)) args)) t k
-      (call_rel setting frame (Here fs w.here) (places fs (result_here t w) w.left w.far) t t f _ args _ (callee_in fs w.here (places fs (result_here t w) w.left w.far) f) (trees_in fs w.here (places fs (result_here t w) w.left w.far) args) (puts fs w t u))
+      (call_rel setting frame (Here fs w.here) (places fs (result_here t w) w.left w.far) t t f _ args _
+      (callee_in fs w.here (places fs (result_here t w) w.left w.far) f) (trees_in fs w.here (places fs (result_here t w) w.left w.far) args)
+      (puts fs w t u))
   kept_layer (stm.Known t n args) h l fs c u r done w k =
-      with_result fs r done w (stm.Known t n args) (stm.Known t n (map (carried_tree (known w.here)) args)) t k (known_rel setting frame (Here fs w.here) (places fs (result_here t w) w.left w.far) t t n args _ (trees_in fs w.here (places fs (result_here t w) w.left w.far) args) (puts fs w t u))
+      with_result fs r done w (stm.Known t n args) (stm.Known t n (map (carried_tree (known w.here)) args)) t k
+      (known_rel setting frame (Here fs w.here) (places fs (result_here t w) w.left w.far) t t n args _ (trees_in fs w.here (places fs (result_here t w) w.left w.far) args) (puts fs w t u))
   kept_layer (stm.Return v) h l fs c u r done w k = other fs r done w (stm.Return v) (stm.Return (carried_tree (known w.here) v)) Never k (return_rel setting frame (Here fs w.here) _ v _ (tree_in fs w.here v))
 
   stm_kept : (s : Stm) → IsKept s

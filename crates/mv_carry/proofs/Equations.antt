@@ -1,6 +1,7 @@
 -- What carrying gives, at each variant.
-use Rattle.std.proofs.Common.{◌≡◌, ℕ, ◌+◌, ◌<◌, Bool, true, false, cond, eqb, List, [], ◌∷◌, ◌++◌, length, map, take, get_or, Option, Some, None, refl, sym, ◌∙◌, ap}
+use Rattle.std.proofs.Common.{◌≡◌, ℕ, ◌+◌, ◌<◌, Bool, false, cond, eqb, List, [], ◌∷◌, ◌++◌, length, map, take, get_or, Option, Some, None, refl, sym, ◌∙◌, ap}
 use Rattle.std.specs.Prelude.{◌||◌}
+use Rattle.mv_num.proofs.Booleans.{or_false}
 use Rattle.std.specs.List.{filter}
 use Rattle.std.proofs.lemmas.List.{take_more}
 use Rattle.std.proofs.lemmas.List.Elements.{filter_more}
@@ -26,7 +27,7 @@ use Rattle.mv_ir.specs.declared.stm.Stm.TheFolds.{fold-roll-Stm, map-Stm}
 use Rattle.mv_ir.specs.Live.{is}
 use Rattle.mv_ir.proofs.Rolls.{same_functions}
 use Rattle.mv_ir.proofs.Induction.{Each, StmChildren, stm_ind, stms_ind}
-use Rattle.mv_ir.proofs.Joining.{map_through}
+use Rattle.mv_ir.proofs.Joining.{map_through, any_append}
 use Rattle.mv_ir.proofs.Keeping.{map_append}
 use Rattle.mv_fold.specs.Simple.{constant}
 use Rattle.mv_carry.specs.declared.facts.Fact.{Fact}
@@ -120,7 +121,23 @@ writing_known u r k args = ap (writes u) (sym (rolls-Known r k args)) ∙ writes
 pub writing_return : (u : ℕ) (v : Tree) → writes u (at.Return v) ≡ false
 writing_return u v = ap (writes u) (sym (rolls-Return v)) ∙ writes_roll u (stm.Return v)
 
-pub ruleset writing = (writing_set, writing_setglobal, writing_divide, writing_check, writing_read, writing_write, writing_zero, writing_if, writing_loop, writing_block, writing_break, writing_back, writing_call, writing_known, writing_return)
+pub ruleset writing = (
+  writing_set,
+  writing_setglobal,
+  writing_divide,
+  writing_check,
+  writing_read,
+  writing_write,
+  writing_zero,
+  writing_if,
+  writing_loop,
+  writing_block,
+  writing_break,
+  writing_back,
+  writing_call,
+  writing_known,
+  writing_return,
+)
 
 -- ---- the walk
 
@@ -192,7 +209,9 @@ module _ (temps : ℕ) where
   pub step_zero : (a : ℕ) (l : Within) (w : Walk) → (step temps (at.Zero a)).walk l w ≡ put (at.Zero a) w
   step_zero a l w = at_roll _ (stm.Zero a) l w (rolls-Zero a) ∙ ap (λ s. put s w) (rolls-Zero a)
 
-  pub step_if : (t : Tree) (a b : List Stm) (l : Within) (w : Walk) → (step temps (at.If t a b)).walk l w ≡ chosen (constant (carried_tree (known w.here) t)) (carried_tree (known w.here) t) (carried_code temps l w.here a) (carried_code temps l w.here b) w
+  pub step_if : (t : Tree) (a b : List Stm) (l : Within) (w : Walk) →
+      (step temps (at.If t a b)).walk l w ≡ chosen (constant (carried_tree (known w.here) t)) (carried_tree (known w.here) t)
+      (carried_code temps l w.here a) (carried_code temps l w.here b) w
   step_if t a b l w = at_roll _ (stm.If t a b) l w (rolls-If t a b)
 
   pub step_loop : (b : List Stm) (l : Within) (w : Walk) → (step temps (at.Loop b)).walk l w ≡ loop_walk temps l b w
@@ -207,7 +226,8 @@ module _ (temps : ℕ) where
   pub step_back : (n : ℕ) (l : Within) (w : Walk) → (step temps (at.Back n)).walk l w ≡ put (at.Back n) (jumped w)
   step_back n l w = at_roll _ (stm.Back n) l w (rolls-Back n) ∙ ap (λ s. put s (jumped w)) (rolls-Back n)
 
-  pub step_call : (r : Option ℕ) (f : Callee) (args : List Tree) (l : Within) (w : Walk) → (step temps (at.Call r f args)).walk l w ≡ put (at.Call r (carried_callee (known w.here) f) (map (carried_tree (known w.here)) args)) (wrote_result r w)
+  pub step_call : (r : Option ℕ) (f : Callee) (args : List Tree) (l : Within) (w : Walk) →
+      (step temps (at.Call r f args)).walk l w ≡ put (at.Call r (carried_callee (known w.here) f) (map (carried_tree (known w.here)) args)) (wrote_result r w)
   step_call r f args l w = at_roll _ (stm.Call r f args) l w (rolls-Call r f args) ∙ ap (λ s. put s (wrote_result r w)) (rolls-Call r _ _)
 
   pub step_known : (r : Option ℕ) (k : Known) (args : List Tree) (l : Within) (w : Walk) → (step temps (at.Known r k args)).walk l w ≡ put (at.Known r k (map (carried_tree (known w.here)) args)) (wrote_result r w)
@@ -218,14 +238,11 @@ module _ (temps : ℕ) where
 
 -- ---- lists, one more of them
 
-some_more : (bs : List Bool) (b : Bool) → any_of (bs ++ b ∷ []) ≡ (any_of bs || b)
-some_more [] true = refl
-some_more [] false = refl
-some_more (true ∷ bs) b = refl
-some_more (false ∷ bs) b = some_more bs b
-
 pub any_more : (t : ℕ) (code : List Stm) (i : ℕ) (d : Stm) → i < length code → any_of (map (writes t) (take (i + 1) code)) ≡ (any_of (map (writes t) (take i code)) || writes t (get_or code i d))
-any_more t code i d lt = ap (λ l. any_of (map (writes t) l)) (take_more code i d lt) ∙ ap any_of (map_append (writes t) (take i code) (get_or code i d ∷ [])) ∙ some_more (map (writes t) (take i code)) (writes t (get_or code i d))
+any_more t code i d lt =
+    ap (λ l. any_of (map (writes t) l)) (take_more code i d lt) ∙ ap any_of (map_append (writes t) (take i code) (get_or code i d ∷ [])) ∙
+    any_append (map (writes t) (take i code)) (writes t (get_or code i d) ∷ []) ∙
+    ap (λ b. any_of (map (writes t) (take i code)) || b) (or_false (writes t (get_or code i d)))
 
 in_order_more : (l : Within) (ss : List Step) (s : Step) (w : Walk) → in_order l (ss ++ s ∷ []) w ≡ s.walk l (in_order l ss w)
 in_order_more l [] s w = refl

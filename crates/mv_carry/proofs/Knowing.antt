@@ -4,8 +4,9 @@ use Rattle.std.specs.Prelude.{slice_index, slice_set}
 use Rattle.std.specs.List.{filter}
 use Rattle.std.proofs.lemmas.List.{get_or-set_other}
 use Rattle.std.proofs.lemmas.Grind.{get_or-set_at}
-use Rattle.std.proofs.lemmas.Bool.{eq-eqb, eqb-true, ltb-true}
+use Rattle.std.proofs.lemmas.Bool.{eqb-true, eqb-false, not-true, ltb-true}
 use Rattle.mv_num.proofs.Booleans.{from_falsity}
+use Rattle.mv_ir.proofs.Common.{each_weaker}
 use Rattle.mv_ir.proofs.Induction.{Each, each_append}
 use Rattle.mv_carry.specs.declared.facts.Fact.{Fact}
 use Rattle.mv_carry.specs.declared.facts.Reach.{Reach}
@@ -42,10 +43,6 @@ each_drop P zero xs h = h
 each_drop P (suc n) [] h = tt
 each_drop P (suc n) (x ∷ xs) h = each_drop P n xs h.1
 
-pub each_as : {A : Type 0} (P Q : A → Type 0) → ((x : A) → P x → Q x) → (xs : List A) → Each P xs → Each Q xs
-each_as P Q f [] h = tt
-each_as P Q f (x ∷ xs) h = (f x h.0, each_as P Q f xs h.1)
-
 each_both : {A : Type 0} (P Q R : A → Type 0) → ((x : A) → P x → Q x → R x) → (xs : List A) → Each P xs → Each Q xs → Each R xs
 each_both P Q R f [] h k = tt
 each_both P Q R f (x ∷ xs) h k = (f x h.0 k.0, each_both P Q R f xs h.1 k.1)
@@ -63,18 +60,11 @@ held (f ∷ fs) xs h t n e = by (eqb f.temp t) refl e (held fs xs h.1 t n)
 abbrev pub Others : ℕ → List Fact → Type 0
 Others t fs = Each (λ f. eqb f.temp t ≡ false) fs
 
-pub not_true : (b : Bool) → not b ≡ true → b ≡ false
-not_true true h = from_falsity h
-not_true false h = refl
-
-apart : (a b : ℕ) → eqb a b ≡ false → a ≡ b → ⊥
-apart a b o e = let same : eqb a b ≡ true = eq-eqb a b e in let no : false ≡ true = sym o ∙ same in absurd (cc)
-
 others_without : (t : ℕ) (fs : List Fact) → Others t (without t fs)
-others_without t fs = each_as (λ (f : Fact). not (eqb f.temp t) ≡ true) (λ (f : Fact). eqb f.temp t ≡ false) (λ f h. not_true (eqb f.temp t) h) (without t fs) (each_passes (λ (f : Fact). not (eqb f.temp t)) fs)
+others_without t fs = each_weaker (λ (f : Fact). not (eqb f.temp t) ≡ true) (λ (f : Fact). eqb f.temp t ≡ false) (λ f h. not-true (eqb f.temp t) h) (without t fs) (each_passes (λ (f : Fact). not (eqb f.temp t)) fs)
 
 pub hold_set : (t v : ℕ) (fs : List Fact) (xs : List ℕ) → Others t fs → Hold fs xs → Hold fs (slice_set xs t v)
-hold_set t v fs xs = each_both (λ (f : Fact). eqb f.temp t ≡ false) (Holds xs) (Holds (slice_set xs t v)) (λ f o h. get_or-set_other xs t f.temp v 0 (apart f.temp t o) ∙ h) fs
+hold_set t v fs xs = each_both (λ (f : Fact). eqb f.temp t ≡ false) (Holds xs) (Holds (slice_set xs t v)) (λ f o h. get_or-set_other xs t f.temp v 0 (eqb-false f.temp t o) ∙ h) fs
 
 pub hold_without : (t v : ℕ) (fs : List Fact) (xs : List ℕ) → Hold fs xs → Hold (without t fs) (slice_set xs t v)
 hold_without t v fs xs h = hold_set t v (without t fs) xs (others_without t fs) (each_filter (Holds xs) (λ (f : Fact). not (eqb f.temp t)) fs h)
@@ -113,7 +103,7 @@ pub meet_right : (a b : Reach) (xs : List ℕ) → At b xs → At (meet a b) xs
 meet_right Never b xs h = h
 meet_right (Knowing fs) Never xs h = absurd h
 meet_right (Knowing fs) (Knowing gs) xs h =
-    each_as (λ (f : Fact). is_number (number_of gs f.temp) f.number ≡ true) (Holds xs) (λ f e. held gs xs h f.temp f.number (is_number_is (number_of gs f.temp) f.number e)) (shared fs gs)
+    each_weaker (λ (f : Fact). is_number (number_of gs f.temp) f.number ≡ true) (Holds xs) (λ f e. held gs xs h f.temp f.number (is_number_is (number_of gs f.temp) f.number e)) (shared fs gs)
     (each_passes (λ (f : Fact). is_number (number_of gs f.temp) f.number) fs)
 
 pub at_without : (t v : ℕ) (r : Reach) (xs : List ℕ) → At r xs → At (with_facts (without t) r) (slice_set xs t v)

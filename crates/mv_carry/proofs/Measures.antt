@@ -8,7 +8,6 @@ use Rattle.mv_ir.specs.declared.tree.Tree.TheViews.{roll-Tree}
 use Rattle.mv_ir.specs.declared.stm.Callee.{Callee}
 use Rattle.mv_ir.specs.declared.stm.Callee.TheVariants as callee
 use Rattle.mv_ir.specs.declared.stm.Stm.{Stm}
-use Rattle.mv_ir.specs.declared.stm.Stm.TheOpen.{Stm-F}
 use Rattle.mv_ir.specs.declared.stm.Stm.TheOpen as stm
 use Rattle.mv_ir.specs.declared.stm.Stm.TheViews.{roll-Stm}
 use Rattle.mv_ir.specs.declared.body.Body.{Body}
@@ -117,7 +116,9 @@ module _ (fs : List Fact) where
   reads_layer (tree.Unary o a) h = to_reads (tree.Unary o a) _ (known_tree_roll fs (tree.Unary o a)) (node_reads (tree.Unary o a) (tree.Unary o (known_tree fs a)) (λ t e. (h t e).0))
   reads_layer (tree.Binary o a b) (h, k) =
       to_reads (tree.Binary o a b) _ (known_tree_roll fs (tree.Binary o a b))
-      (node_reads (tree.Binary o a b) (tree.Binary o (known_tree fs a) (known_tree fs b)) (λ t e. or_both (reads_temp t a) (reads_temp t b) (reads_temp t (known_tree fs a)) (reads_temp t (known_tree fs b)) (λ v. (h t v).0) (λ v. (k t v).0) e))
+      (node_reads (tree.Binary o a b) (tree.Binary o (known_tree fs a) (known_tree fs b))
+      (λ t e. or_both (reads_temp t a) (reads_temp t b) (reads_temp t (known_tree fs a)) (reads_temp t (known_tree fs b)) (λ v. (h t v).0)
+      (λ v. (k t v).0) e))
   reads_layer (tree.Narrow n a) h = to_reads (tree.Narrow n a) _ (known_tree_roll fs (tree.Narrow n a)) (node_reads (tree.Narrow n a) (tree.Narrow n (known_tree fs a)) (λ t e. (h t e).0))
 
   carried_reads : (x : Tree) → NoMoreRead x (carried_tree fs x)
@@ -197,7 +198,9 @@ thinner_closed = record {
   block = block_thins every;
   break = λ n. same (roll-Stm (stm.Break n));
   back = λ n. same (roll-Stm (stm.Back n));
-  call = λ fs t f args. thin_one (stm.Call t f args) (stm.Call t (carried_callee fs f) (map (carried_tree fs) args)) (next_thins (callee_trees f ++ args) (callee_trees (carried_callee fs f) ++ map (carried_tree fs) args) t (call_reads fs f args));
+  call =
+      λ fs t f args. thin_one (stm.Call t f args) (stm.Call t (carried_callee fs f) (map (carried_tree fs) args))
+      (next_thins (callee_trees f ++ args) (callee_trees (carried_callee fs f) ++ map (carried_tree fs) args) t (call_reads fs f args));
   known = λ fs t k args. thin_one (stm.Known t k args) (stm.Known t k (map (carried_tree fs) args)) (next_thins args (map (carried_tree fs) args) t (many_reads fs args));
   return = λ fs v. thin_one (stm.Return v) (stm.Return (carried_tree fs v)) (plain_thins every (v ∷ []) (carried_tree fs v ∷ []) None (λ r. false) (one_reads fs v) (on_nothing every));
 }

@@ -61,7 +61,8 @@ module _ (temps : ℕ) (Q : List Stm → List Stm → Type 0) (q : IsClosed Q) w
   result : (t : Option ℕ) (done : List Stm) (w : Walk) (x y : Stm-F Stm) → Q done w.code → Q (alone x) (alone y) → Q (done ++ roll-Stm x ∷ []) (put (roll-Stm y) (wrote_result t w)).code
   result t done w x y k h = subst (λ c. Q (done ++ roll-Stm x ∷ []) (c ++ roll-Stm y ∷ [])) (sym (same_code t w)) (more done w x y k h)
 
-  choice : (c : Option ℕ) (done : List Stm) (w : Walk) (t u : Tree) (a b : List Stm) (a' b' : Walk) → Q done w.code → Q (alone (stm.If t a b)) (alone (stm.If u a'.code b'.code)) → Q (done ++ roll-Stm (stm.If t a b) ∷ []) (chosen c u a' b' w).code
+  choice : (c : Option ℕ) (done : List Stm) (w : Walk) (t u : Tree) (a b : List Stm) (a' b' : Walk) → Q done w.code →
+      Q (alone (stm.If t a b)) (alone (stm.If u a'.code b'.code)) → Q (done ++ roll-Stm (stm.If t a b) ∷ []) (chosen c u a' b' w).code
   choice None done w t u a b a' b' k h = more done w (stm.If t a b) (stm.If u a'.code b'.code) k h
   choice (Some zero) done w t u a b a' b' k h = more done w (stm.If t a b) (stm.If u a'.code b'.code) k h
   choice (Some (suc n)) done w t u a b a' b' k h = more done w (stm.If t a b) (stm.If u a'.code b'.code) k h

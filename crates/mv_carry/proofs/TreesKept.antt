@@ -32,7 +32,9 @@ module _ (fs : List Fact) where
   nodes_layer (tree.Global g) h = ap nodes (known_tree_roll fs (tree.Global g))
   nodes_layer (tree.Function f) h = ap nodes (known_tree_roll fs (tree.Function f))
   nodes_layer (tree.Unary o a) h = ap nodes (known_tree_roll fs (tree.Unary o a)) ∙ nodes_roll (tree.Unary o (known_tree fs a)) ∙ ap suc h ∙ sym (nodes_roll (tree.Unary o a))
-  nodes_layer (tree.Binary o a b) h = ap nodes (known_tree_roll fs (tree.Binary o a b)) ∙ nodes_roll (tree.Binary o (known_tree fs a) (known_tree fs b)) ∙ ap (λ n. suc (n + nodes (known_tree fs b))) h.0 ∙ ap (λ n. suc (nodes a + n)) h.1 ∙ sym (nodes_roll (tree.Binary o a b))
+  nodes_layer (tree.Binary o a b) h =
+      ap nodes (known_tree_roll fs (tree.Binary o a b)) ∙ nodes_roll (tree.Binary o (known_tree fs a) (known_tree fs b)) ∙
+      ap (λ n. suc (n + nodes (known_tree fs b))) h.0 ∙ ap (λ n. suc (nodes a + n)) h.1 ∙ sym (nodes_roll (tree.Binary o a b))
   nodes_layer (tree.Narrow k a) h = ap nodes (known_tree_roll fs (tree.Narrow k a)) ∙ nodes_roll (tree.Narrow k (known_tree fs a)) ∙ ap suc h ∙ sym (nodes_roll (tree.Narrow k a))
 
   pub nodes_same : (t : Tree) → NodesSame t

@@ -1,8 +1,6 @@
 -- What a walk over code leaves of what is known is what is known of temporaries that the code doesn't write.
 use Rattle.std.proofs.Common.{◌≡◌, ℕ, ◌+◌, ◌<◌, Bool, true, false, not, cond, eqb, List, [], ◌∷◌, length, map, take, get_or, Option, Some, None, refl, sym, ◌∙◌, ap}
 use Rattle.std.specs.Prelude.{◌||◌}
-use Rattle.std.proofs.lemmas.Bool.{eq-eqb, eqb-true}
-use Rattle.mv_num.proofs.Booleans.{same_bools}
 use Rattle.mv_ast.specs.Names.{any_of}
 use Rattle.mv_ast.specs.declared.program.Known.{Known}
 use Rattle.mv_ir.specs.declared.tree.Tree.{Tree}
@@ -11,6 +9,7 @@ use Rattle.mv_ir.specs.declared.stm.Callee.{Callee}
 use Rattle.mv_ir.specs.declared.stm.Stm.{Stm}
 use Rattle.mv_ir.specs.declared.stm.Stm as at
 use Rattle.mv_ir.specs.Live.{is}
+use Rattle.mv_ir.proofs.Common.{eqb_swapped}
 use Rattle.mv_ir.proofs.Rolls.{same_functions}
 use Rattle.mv_carry.specs.declared.facts.Fact.{Fact}
 use Rattle.mv_carry.specs.declared.facts.Reach.{Reach}
@@ -21,9 +20,6 @@ use Rattle.mv_carry.specs.Carrying.{wrote, writes, unwritten, unwritten_by, with
 use Rattle.mv_carry.proofs.Equations.{any_more, writing_set, writing_setglobal, writing_divide, writing_check, writing_read, writing_write, writing_zero, writing_if, writing_loop, writing_block, writing_break, writing_back, writing_call, writing_known, writing_return}
 
 -- ---- facts
-
-same_bool : (a b : ℕ) → eqb a b ≡ eqb b a
-same_bool a b = same_bools (eqb a b) (eqb b a) (λ e. eq-eqb b a (sym (eqb-true a b e))) (λ e. eq-eqb a b (sym (eqb-true b a e)))
 
 -- what isn't known of a temporary needn't be forgotten
 pub without_unknown : (t : ℕ) (fs : List Fact) → number_of fs t ≡ None → without t fs ≡ fs
@@ -49,7 +45,8 @@ both_unwritten : (p q : ℕ → Bool) (fs : List Fact) → unwritten (λ t. p t 
 both_unwritten p q [] = refl
 both_unwritten p q (f ∷ fs) = by (p f.temp) (both_unwritten p q fs)
   where
-    by : (c : Bool) → unwritten (λ t. p t || q t) fs ≡ unwritten q (unwritten p fs) → cond (not (c || q f.temp)) (f ∷ unwritten (λ t. p t || q t) fs) (unwritten (λ t. p t || q t) fs) ≡ unwritten q (cond (not c) (f ∷ unwritten p fs) (unwritten p fs))
+    by : (c : Bool) → unwritten (λ t. p t || q t) fs ≡ unwritten q (unwritten p fs) →
+        cond (not (c || q f.temp)) (f ∷ unwritten (λ t. p t || q t) fs) (unwritten (λ t. p t || q t) fs) ≡ unwritten q (cond (not c) (f ∷ unwritten p fs) (unwritten p fs))
     by true rest = rest
     by false rest = ap (λ gs. cond (not (q f.temp)) (f ∷ gs) gs) rest
 
@@ -57,7 +54,7 @@ as_unwritten : (p q : ℕ → Bool) (fs : List Fact) → ((t : ℕ) → p t ≡ 
 as_unwritten p q fs h = ap (λ f. unwritten f fs) (same_functions p q h)
 
 one_unwritten : (t : ℕ) (fs : List Fact) → unwritten (λ u. eqb t u) fs ≡ without t fs
-one_unwritten t fs = as_unwritten (λ u. eqb t u) (λ u. eqb u t) fs (λ u. same_bool t u)
+one_unwritten t fs = as_unwritten (λ u. eqb t u) (λ u. eqb u t) fs (λ u. eqb_swapped t u)
 
 result_unwritten : (r : Option ℕ) (fs : List Fact) → unwritten (λ u. is r u) fs ≡ without_result r fs
 result_unwritten None fs = nothing_written fs
@@ -136,13 +133,16 @@ pub ruleset unwritings = (by_set, by_setglobal, by_divide, by_check, by_read, by
 pub none_unwritten : (fs : List Fact) → unwritten (λ u. any_of (map (writes u) [])) fs ≡ fs
 none_unwritten fs = nothing_written fs
 
-pub unwritten_more : (code : List Stm) (i : ℕ) (d : Stm) (fs : List Fact) → i < length code → unwritten (λ u. any_of (map (writes u) (take (i + 1) code))) fs ≡ unwritten_by (get_or code i d) (unwritten (λ u. any_of (map (writes u) (take i code))) fs)
+pub unwritten_more : (code : List Stm) (i : ℕ) (d : Stm) (fs : List Fact) → i < length code →
+    unwritten (λ u. any_of (map (writes u) (take (i + 1) code))) fs ≡ unwritten_by (get_or code i d) (unwritten (λ u. any_of (map (writes u) (take i code))) fs)
 unfolding unwritten_by
 unwritten_more code i d fs lt =
     as_unwritten (λ u. any_of (map (writes u) (take (i + 1) code))) (λ u. any_of (map (writes u) (take i code)) || writes u (get_or code i d)) fs (λ u. any_more u code i d lt) ∙
     both_unwritten (λ u. any_of (map (writes u) (take i code))) (λ u. writes u (get_or code i d)) fs
 
-pub forgotten_more : (items code : List Stm) (i : ℕ) (s : Stm) (fs gs hs : List Fact) → items ≡ code → i < length items → s ≡ get_or items i s → gs ≡ unwritten (λ t. any_of (map (writes t) (take i code))) fs → hs ≡ unwritten_by s gs → hs ≡ unwritten (λ t. any_of (map (writes t) (take (i + 1) code))) fs
+pub forgotten_more : (items code : List Stm) (i : ℕ) (s : Stm) (fs gs hs : List Fact) → items ≡ code → i < length items → s ≡ get_or items i s →
+    gs ≡ unwritten (λ t. any_of (map (writes t) (take i code))) fs → hs ≡ unwritten_by s gs →
+    hs ≡ unwritten (λ t. any_of (map (writes t) (take (i + 1) code))) fs
 forgotten_more items code i s fs gs hs same lt is before now =
     now ∙ ap (λ z. unwritten_by z gs) is ∙ ap (unwritten_by (get_or items i s)) (before ∙ ap (λ c. unwritten (λ t. any_of (map (writes t) (take i c))) fs) (sym same)) ∙ sym (unwritten_more items i s fs lt) ∙
     ap (λ c. unwritten (λ t. any_of (map (writes t) (take (i + 1) c))) fs) same

@@ -1,6 +1,7 @@
 -- What is known of temporaries at a place of some code.
-use Rattle.std.specs.Prelude.{ℕ, ◌-◌, Bool, false, not, cond, eqb, ltb, List, [], ◌∷◌, ◌++◌, length, drop, Option, Some, None}
+use Rattle.std.specs.Prelude.{ℕ, ◌-◌, not, cond, eqb, ltb, List, [], ◌∷◌, ◌++◌, length, drop, Option, Some, None}
 use Rattle.std.specs.List.{filter}
+pub use Rattle.mv_ir.specs.Live.{is as is_number}
 use Rattle.mv_carry.specs.declared.facts.Fact.{Fact}
 use Rattle.mv_carry.specs.declared.facts.Reach.{Reach}
 use Rattle.mv_carry.specs.declared.facts.Reach.TheVariants.{Never, Knowing}
@@ -22,10 +23,6 @@ newest fs = drop (length fs - 31) fs
 abbrev pub behind_write : (temps t : ℕ) → Option ℕ → List Fact → List Fact
 behind_write temps t None fs = without t fs
 behind_write temps t (Some n) fs = cond (ltb t temps) (without t (newest fs) ++ record { temp = t; number = n } ∷ []) (without t fs)
-
-abbrev pub is_number : Option ℕ → ℕ → Bool
-is_number None n = false
-is_number (Some m) n = eqb m n
 
 -- what is known on both of two ways
 abbrev pub shared : List Fact → List Fact → List Fact

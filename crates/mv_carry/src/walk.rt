@@ -240,6 +240,7 @@ fn carry_block(
     around(alloc, walk, Stm::Block(body.code), here, body.far, far)
 }
 
+// An arm for each statement: what becomes of it, and what is known behind it.
 #[cycle(carry)]
 #[tactic(auto, using(crate::proofs::Equations::steps))]
 fn carry_stm(

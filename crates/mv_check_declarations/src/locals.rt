@@ -134,7 +134,7 @@ fn rule_of_function(scope: &Scope, name: &Option<Text>) -> u8
     }
 }
 
-// Declares what a declarator designates.
+// Declares what a declarator designates: an arm for each entity.
 fn by_entity(
     alloc: Global,
     scope: &mut Scope,

@@ -41,6 +41,7 @@ fn cast_use(to: CType) -> Use
 
 /// What an expression that is used as something is found to be, with all conversions written out; or the first place in it at which a
 /// rule is broken, with the least rule of that node.
+// An arm for each form of node.
 #[cycle(expressions)]
 pub fn judge(alloc: Global, scope: &Scope, node: &Node, used: Use) -> Result<Seen, RuleError>
     ensures { IsJudged (judgement scope.now node.now used) result }

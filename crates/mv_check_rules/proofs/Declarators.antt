@@ -1,6 +1,6 @@
 -- Declarators at file scope agree, and what an attribute among specifiers stands on.
 use Rattle.std.proofs.Common.{◌≡◌, ℕ, refl, sym, ◌∙◌, ap, Bool, true, false, ◌&&◌, ◌||◌, not, is_some, unwrap_or, if◌then◌else◌, Option, Some, None, List, [], ◌∷◌, map, fold, slice_get}
-use Rattle.std.proofs.lemmas.Bool.{true≢false}
+use Rattle.std.proofs.lemmas.Bool.{or_parts, true≢false}
 use Rattle.std.specs.List.{list_any}
 use Rattle.mv_num.specs.declared.kind.Kind.{Kind}
 use Rattle.mv_syntax.specs.declared.place.Place.{Place}
@@ -51,7 +51,6 @@ use Rattle.mv_check_rules.proofs.Values.{converted_of, initial_agrees, words_of,
 use Rattle.mv_check_rules.proofs.Routines.{defined_parameters_agree, routine_agrees}
 use Rattle.mv_check_rules.proofs.Objects.{scalar_agrees, array_agrees}
 use Rattle.mv_num.proofs.Booleans.{or_true}
-use Rattle.mv_check_rules.proofs.Tags.{first_false, second_false}
 use Rattle.mv_check_declarations.specs.Specifiers.{scalar_kind}
 
 -- ---- what an attribute stands on
@@ -119,8 +118,8 @@ module _ (items : List Item) (fixed : Bool) where
   same_bearers [] h = refl
   same_bearers (d ∷ ds) h =
       ap (λ b. b ∷ map own_bearer ds)
-      (same_by_form (is_main d.name) (own d) (is_constant_object items (name_of d)) (out-Shape d.shape) (first_false (constant d) (list_any constant ds) h)) ∙
-      ap (λ (bs : List Bearer). bearer (own d || is_constant_object items (name_of d)) d ∷ bs) (same_bearers ds (second_false (constant d) (list_any constant ds) h))
+      (same_by_form (is_main d.name) (own d) (is_constant_object items (name_of d)) (out-Shape d.shape) (or_parts (constant d) (list_any constant ds) h).0) ∙
+      ap (λ (bs : List Bearer). bearer (own d || is_constant_object items (name_of d)) d ∷ bs) (same_bearers ds (or_parts (constant d) (list_any constant ds) h).1)
 
   barred : (ds : List Declarator) → list_any constant ds ≡ true →
       (list_any bears_none (bearers items fixed ds) ≡ true) × (list_any (λ b. not (is_switch b)) (bearers items fixed ds) ≡ true)

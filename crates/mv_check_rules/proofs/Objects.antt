@@ -1,6 +1,7 @@
 -- Declarators of objects at file scope agree.
 use Rattle.std.proofs.Common.{◌≡◌, ℕ, zero, suc, refl, sym, ◌∙◌, ap, subst, Bool, true, false, ◌&&◌, ◌||◌, not, nat_eq, nat_le, is_some, is_none, unwrap_or, Option, Some, None, List, [], ◌∷◌, ◌++◌, map, length, slice_get, le-leb, arith}
 use Rattle.std.specs.Prelude.{slice_set}
+use Rattle.std.proofs.Math.Bool.{and_assoc}
 use Rattle.std.proofs.lemmas.Bool.{true≢false}
 use Rattle.std.proofs.lemmas.List.{length-map, map-set, map-append}
 use Rattle.mv_syntax.specs.declared.place.Place.{Place}
@@ -70,10 +71,6 @@ module _ (P : Option Initial → Given → Type 0)
   by_kind (Some (initial.Chars bytes)) (Characters them) h = subst (λ (b : List ℕ). P (Some (initial.Chars bytes)) (Characters b)) h (characters bytes)
 
 -- ---- tests
-
-and_and : (a b c : Bool) → (a && (b && c)) ≡ ((a && b) && c)
-and_and true b c = refl
-and_and false b c = refl
 
 no_room : (z w : Bool) → (z || not w) ≡ not (not z && w)
 no_room true w = refl
@@ -289,7 +286,7 @@ pub record AreRules (e : Declared) (v : Option Initial) (g : Given) : Type 0 whe
 scalar_rules : (t : CType) (fixed : Bool) (v : Option Initial) (g : Given) → IsOf v g → AreRules (Scalar t fixed) v g
 scalar_rules t fixed v g is = record {
   goes = λ old rest.
-      ap (λ b. same_type old.ctype t && (b && rest)) (size_none old.size) ∙ and_and (same_type old.ctype t) (is_none old.size) rest;
+      ap (λ b. same_type old.ctype t && (b && rest)) (size_none old.size) ∙ sym (and_assoc (same_type old.ctype t) (is_none old.size) rest);
   unconverted = unconverted_scalar t fixed v g is;
   void = refl;
   extents = extents_scalar t fixed v g is;
@@ -298,7 +295,7 @@ scalar_rules t fixed v g is = record {
 array_rules : (t : CType) (fixed : Bool) (size : Option Constant) (v : Option Initial) (g : Given) → IsOf v g → AreRules (Array t fixed size) v g
 array_rules t fixed size v g is = record {
   goes = λ old rest.
-      ap (λ b. same_type old.ctype t && (b && rest)) (size_some old.size (array_size size g)) ∙ and_and (same_type old.ctype t) (is_size old.size (array_size size g)) rest;
+      ap (λ b. same_type old.ctype t && (b && rest)) (size_some old.size (array_size size g)) ∙ sym (and_assoc (same_type old.ctype t) (is_size old.size (array_size size g)) rest);
   unconverted = unconverted_array t fixed size (array_size size g) v g is;
   void = refl;
   extents = extents_array t fixed size v g is;

@@ -78,7 +78,9 @@ main_same signatures (Some m) = refl
 pub unit_end_agrees : (items : List Item) (place : Place) (c : Declarations) → program_judgement place (pointers_of (foreknown items)) (contents_of c) ≡ unit_end items place c
 unfolding program_judgement foreknown
 unit_end_agrees items place c =
-    ap (λ main. program_or_broken place (pointer_globals items) (contents_of c) main) (sym (main_same c.scope.signatures (named (codes "main") c.scope.names.here))) ∙ by (main_number c.scope.signatures (named (codes "main") c.scope.names.here))
+    ap (λ main. program_or_broken place (pointer_globals items) (contents_of c) main)
+    (sym (main_same c.scope.signatures (named (codes "main") c.scope.names.here))) ∙
+    by (main_number c.scope.signatures (named (codes "main") c.scope.names.here))
   where
     by : (main : Option ℕ) → program_or_broken place (pointer_globals items) (contents_of c) main ≡ concluded place c.scope (node.End main) (program items c (unwrap_or main 0))
     by None = refl

@@ -170,9 +170,13 @@ module _ (parameters_agree : ParametersAgree) where
       pub routine_agrees : function_judgement (foreknown items) d name result signature b (contents_of c) ≡ mapped contents_of (routine items d name result signature b c)
       unfolding function_judgement foreknown
       routine_agrees =
-          ap (λ s. and_then (plain_values d.initial s) (λ x. code.unless_broken d.place (code.rule_of d signature b (contents_of c) (code.before_of (foreknown items) name c.scope)) (code.defined (foreknown items) name result (code.params_of d) b (function_number items name) (in_scope (contents_of c) s))))
+          ap (λ s. and_then (plain_values d.initial s)
+          (λ x. code.unless_broken d.place (code.rule_of d signature b (contents_of c) (code.before_of (foreknown items) name c.scope))
+          (code.defined (foreknown items) name result (code.params_of d) b (function_number items name) (in_scope (contents_of c) s))))
           (scope_same items name signature c.scope (meaning_here c.scope name) (known_function name)) ∙
-          (ap (λ ps. and_then (plain_values d.initial named_scope) (λ x. code.unless_broken d.place (code.rule_of d signature b (contents_of c) (code.before_of (foreknown items) name c.scope)) (code.defined (foreknown items) name result ps b (function_number items name) (in_scope (contents_of c) named_scope))))
+          (ap (λ ps. and_then (plain_values d.initial named_scope)
+          (λ x. code.unless_broken d.place (code.rule_of d signature b (contents_of c) (code.before_of (foreknown items) name c.scope))
+          (code.defined (foreknown items) name result ps b (function_number items name) (in_scope (contents_of c) named_scope))))
           (params_same (out-Shape d.shape)) ∙
           (ap (λ j. and_then j (λ x. ruled named_scope (is_some d.initial))) (initial_agrees Void d.initial named_scope) ∙
           by_given named_scope (given value_judgement d.initial named_scope) (given_is value_judgement d.initial named_scope)))

@@ -175,7 +175,9 @@ declarator_is : (y : Declarator-F S D P) → DeclaratorIs (roll-Declarator (decl
 declarator_is y =
     subst (λ x. DeclaratorsAgree x (code.parameter_declarator (roll-Declarator (declarator_of y))))
     (sym (fold-roll-Declarator Shapes Declarators Params shape_step declarator_step param_step (declarator_of y)))
-    (subst (DeclaratorsAgree (declarator_step (map-Declarator Shape Declarator Param Shapes Declarators Params declared_as declarator_found param_found (declarator_of y)))) (sym (fold-roll-Declarator code.Shapes code.Declarators code.Params code.shape_step code.declarator_step code.param_step (declarator_of y)))
+    (subst (DeclaratorsAgree (declarator_step
+    (map-Declarator Shape Declarator Param Shapes Declarators Params declared_as declarator_found param_found (declarator_of y))))
+    (sym (fold-roll-Declarator code.Shapes code.Declarators code.Params code.shape_step code.declarator_step code.param_step (declarator_of y)))
     (declarators_agree y))
 
 param_is : (y : Param-F S D P) → ParamIs (roll-Param (param_of y))

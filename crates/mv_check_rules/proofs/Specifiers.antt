@@ -1,6 +1,7 @@
 -- Specifiers agree: enums and attributes in the order of the text.
 use Rattle.std.proofs.Common.{◌≡◌, ℕ, suc, ◌+◌, refl, sym, ◌∙◌, ap, arith, Bool, true, false, ◌||◌, if◌then◌else◌, Option, Some, None, List, [], ◌∷◌, ◌++◌, map, take, drop}
 use Rattle.std.specs.List.{list_any}
+use Rattle.std.proofs.Math.Bool.{or_assoc}
 use Rattle.std.proofs.lemmas.List.{drop-drop}
 use Rattle.mv_num.specs.declared.kind.Kind.{Kind}
 use Rattle.mv_syntax.specs.declared.unit.EnumSpec.{EnumSpec, out-EnumSpec}
@@ -28,13 +29,9 @@ use Rattle.mv_num.proofs.Booleans.{or_false}
 -- ---- lists
 
 module _ {A : Type 0} (p : A → Bool) where
-  or_again : (a b c : Bool) → (a || (b || c)) ≡ ((a || b) || c)
-  or_again true b c = refl
-  or_again false b c = refl
-
   pub any_more : (xs : List A) (x : A) → list_any p (xs ++ x ∷ []) ≡ list_any p xs || p x
   any_more [] x = or_false (p x)
-  any_more (y ∷ ys) x = ap (λ b. p y || b) (any_more ys x) ∙ or_again (p y) (list_any p ys) (p x)
+  any_more (y ∷ ys) x = ap (λ b. p y || b) (any_more ys x) ∙ sym (or_assoc (p y) (list_any p ys) (p x))
 
 last_more : (es : List Enumeration) (e : Enumeration) → last_number (es ++ e ∷ []) ≡ number_of_enumeration e
 last_more [] e = refl

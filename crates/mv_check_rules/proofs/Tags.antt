@@ -1,5 +1,5 @@
 -- Enums keep the tags that are declared, and what is declared before an enum is declared behind all specifiers.
-use Rattle.std.proofs.Common.{◌≡◌, ℕ, refl, sym, ◌∙◌, ap, Bool, true, false, ◌||◌, is_some, is_none, unwrap_or, if◌then◌else◌, Option, Some, None, List, [], ◌∷◌, ◌++◌, length, map}
+use Rattle.std.proofs.Common.{◌≡◌, ℕ, refl, sym, ◌∙◌, ap, Bool, true, false, is_some, is_none, unwrap_or, if◌then◌else◌, Option, Some, None, List, [], ◌∷◌, ◌++◌, length, map}
 use Rattle.std.specs.List.{list_any}
 use Rattle.std.specs.Cmp.Lexicographic.{pointwise}
 use Rattle.std.specs.Prelude.{nat_eq}
@@ -24,7 +24,7 @@ use Rattle.mv_check_rules.specs.Rules.{is_undeclared, breaches}
 use Rattle.mv_check_rules.specs.Declarations.{in_order, enumerator, enumerator_value, Enumerators, with_enumerator, with_enumeration, new_enumeration, enumeration_named, enumeration_of, enumeration, Attribution, attribute, Specifier, Enum, Attribute as Marked, stands_before, specifiers_in_order, Specified, specifier}
 use Rattle.mv_check_rules.proofs.Parts.{IfGood}
 use Rattle.mv_check_rules.proofs.Specifiers.{any_more}
-use Rattle.std.proofs.lemmas.Bool.{or_from}
+use Rattle.std.proofs.lemmas.Bool.{or_from, or_parts}
 
 -- ---- what holds of what is found, if it is
 
@@ -138,14 +138,6 @@ AllDeclared es s = any_of (map (undeclared_enum s) es) ≡ false
 abbrev Ends : List EnumSpec → Specified → Specified → Type 0
 Ends es y z = Grows y.scope z.scope × (list_any is_undeclared z.enums ≡ false → (list_any is_undeclared y.enums ≡ false) × AllDeclared es z.scope)
 
-pub first_false : (a b : Bool) → (a || b) ≡ false → a ≡ false
-first_false true b h = h
-first_false false b h = refl
-
-pub second_false : (a b : Bool) → (a || b) ≡ false → b ≡ false
-second_false true b h = absurd (cc)
-second_false false b h = h
-
 enum_grows : (tag : Option (List ℕ)) (without : Bool) (s t : Scope) → Grows s t → names.is_undeclared s tag without ≡ false → names.is_undeclared t tag without ≡ false
 enum_grows None without s t g h = refl
 enum_grows (Some tag) false s t g h = refl
@@ -177,10 +169,10 @@ module _ (bs : List Bearer) (k : Option Kind) where
         λ t h. p.0 t (q.0 t h),
         λ h.
             let more = sym (any_more is_undeclared y.enums d.1) ∙ (q.1 h).0 in (
-              first_false (list_any is_undeclared y.enums) (is_undeclared d.1) more,
+              (or_parts (list_any is_undeclared y.enums) (is_undeclared d.1) more).0,
               or_from (undeclared_enum z.scope e) (any_of (map (undeclared_enum z.scope) (enums_in l)))
                   (enum_grows (out-EnumSpec e).tag (is_none (out-EnumSpec e).members) y.scope z.scope (λ t g. p.0 t (q.0 t g))
-                  (p.1 ∙ second_false (list_any is_undeclared y.enums) (is_undeclared d.1) more)) (q.1 h).1,
+                  (p.1 ∙ (or_parts (list_any is_undeclared y.enums) (is_undeclared d.1) more).1)) (q.1 h).1,
             ),
       )
 

@@ -33,7 +33,8 @@ numbers_more f xs i x h e =
     let long = length-take-le i xs (omega arith) in
     ap (λ l. numbers_from f 0 l) (take_more xs i x h ∙ ap (λ y. take i xs ++ y ∷ []) (sym e)) ∙ numbers_last f 0 i (take i xs) x (omega (arith, long))
 
-pub number_more : (flags : List Bool) (xs : List Switch) (i : ℕ) (x : Switch) → i < length xs → x ≡ get_or xs i x → is_set flags x.global ≡ true → numbers_from (is_set flags) 0 (take (i + 1) xs) ≡ numbers_from (is_set flags) 0 (take i xs) ++ i ∷ []
+pub number_more : (flags : List Bool) (xs : List Switch) (i : ℕ) (x : Switch) → i < length xs → x ≡ get_or xs i x → is_set flags x.global ≡ true →
+    numbers_from (is_set flags) 0 (take (i + 1) xs) ≡ numbers_from (is_set flags) 0 (take i xs) ++ i ∷ []
 number_more flags xs i x h e t = numbers_more (is_set flags) xs i x h e ∙ ap (λ b. numbers_from (is_set flags) 0 (take i xs) ++ cond b (i ∷ []) []) t
 
 pub none_more : (flags : List Bool) (xs : List Switch) (i : ℕ) (x : Switch) → i < length xs → x ≡ get_or xs i x → is_set flags x.global ≡ false → numbers_from (is_set flags) 0 (take (i + 1) xs) ≡ numbers_from (is_set flags) 0 (take i xs)

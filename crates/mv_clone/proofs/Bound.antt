@@ -109,4 +109,20 @@ module _ (ps : List (ℕ × ℕ)) where
 
 pub ruleset bound_trees = (bound_number, bound_temp, bound_read, bound_switch, bound_function, bound_unary, bound_binary, bound_narrow)
 
-pub ruleset bound_stms = (bound_set_stm, bound_setglobal_stm, bound_divide_stm, bound_check_stm, bound_read_stm, bound_write_stm, bound_zero_stm, bound_if_stm, bound_loop_stm, bound_block_stm, bound_break_stm, bound_back_stm, bound_call_stm, bound_known_stm, bound_return_stm)
+pub ruleset bound_stms = (
+  bound_set_stm,
+  bound_setglobal_stm,
+  bound_divide_stm,
+  bound_check_stm,
+  bound_read_stm,
+  bound_write_stm,
+  bound_zero_stm,
+  bound_if_stm,
+  bound_loop_stm,
+  bound_block_stm,
+  bound_break_stm,
+  bound_back_stm,
+  bound_call_stm,
+  bound_known_stm,
+  bound_return_stm,
+)

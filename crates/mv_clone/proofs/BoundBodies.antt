@@ -19,7 +19,9 @@ module _ (ps : List (ℕ × ℕ)) where
       let size : statements r.code ≡ statements b.code = ap (λ c. total (map stm_size c)) ec ∙ ap total (blind_all ps stm_size layer_size size_roll (blind_sizes ps) b.code) in
       let count : tree_nodes r.code ≡ tree_nodes b.code = ap (λ c. nodes_of_all (trees c)) ec ∙ ap nodes_of_all (trees_bound ps b.code) ∙ nodes_bound_all ps (trees b.code) in
       record {
-        means = λ others fewer setting depth live. body_between setting (frame depth live ps) (frame depth live others) b r et ea (subst (λ c. Between setting (frame depth live ps) (frame depth live others) b.code c) (sym ec) (all_kept ps others fewer setting depth live b.code));
+        means =
+            λ others fewer setting depth live. body_between setting (frame depth live ps) (frame depth live others) b r et ea
+            (subst (λ c. Between setting (frame depth live ps) (frame depth live others) b.code c) (sym ec) (all_kept ps others fewer setting depth live b.code));
         scalars = reads;
         code = ec;
         arrays = ap arrays_read ec ∙ ap joined (blind_all ps stm_arrays layer_arrays arrays_roll (blind_arrays ps) b.code);

@@ -1,6 +1,5 @@
 -- The replacement of reads changes nothing that a temporary sees: where it is live, and where it is written.
-use Rattle.std.proofs.Common.{◌≡◌, ℕ, ◌<◌, Bool, false, not, ◌&&◌, ◌||◌, List, [], ◌∷◌, ◌++◌, map, refl, subst, sym, ap, ◌∙◌, Option, None, Some}
-use Rattle.std.specs.Prelude.{ltb}
+use Rattle.std.proofs.Common.{◌≡◌, ℕ, Bool, false, not, ◌&&◌, ◌||◌, List, [], ◌∷◌, ◌++◌, map, refl, sym, ap, ◌∙◌, Option, None, Some}
 use Rattle.mv_ir.specs.declared.tree.Tree.{Tree}
 use Rattle.mv_ir.specs.declared.tree.Tree.TheOpen.{Tree-F}
 use Rattle.mv_ir.specs.declared.tree.Tree.TheOpen as tree
@@ -12,10 +11,11 @@ use Rattle.mv_ir.specs.declared.stm.Stm.TheOpen as stm
 use Rattle.mv_ir.specs.declared.body.Body.{Body}
 use Rattle.mv_ir.specs.Trees.{found}
 use Rattle.mv_ir.specs.Measures.{callee_trees}
-use Rattle.mv_ir.specs.Live.{reads_temp, any_reads, is, Around, Flow, live_in_order, marks_in_order, plain, goes_next, layer_flow, flow, nowhere, live_at_start, all_marks, IsWhole, HasTemps, mark_at, marks_length, interval, filled, greatest_up_to, count_at, below, most_intervals}
+use Rattle.mv_ir.specs.Live.{reads_temp, any_reads, is, Around, Flow, live_in_order, marks_in_order, plain, goes_next, layer_flow, flow, all_marks, IsWhole, HasTemps, marks_length, interval, filled, greatest_up_to, count_at, below, most_intervals}
 use Rattle.mv_ir.proofs.Induction.{TreeChildren, tree_ind}
 use Rattle.mv_ir.proofs.Rolls.{same_functions, reads_temp_roll, flow_roll}
 use Rattle.mv_ir.proofs.Keeping.{map_append}
+use Rattle.mv_ir.proofs.Living as of_flows
 use Rattle.mv_clone.specs.Bind.{bound_tree, bound_callee, bound_layer, bound_code, known_or_read}
 use Rattle.mv_clone.proofs.Bound.{bound_tree_roll}
 use Rattle.mv_clone.proofs.Kept.{callee_trees_bound, blind_all}
@@ -101,21 +101,17 @@ module _ (ps : List (ℕ × ℕ)) (t : ℕ) where
 
 -- the second has the first's code with its switches replaced, and its numbers of parameters and of temporaries
 module _ (ps : List (ℕ × ℕ)) (b r : Body) (ep : r.params ≡ b.params) (et : r.temps ≡ b.temps) (ec : r.code ≡ bound_code ps b.code) where
-  live_same : (t : ℕ) → live_at_start t r.code ≡ live_at_start t b.code
-  live_same t = ap (live_at_start t) ec ∙ ap (λ fs. live_in_order fs nowhere) (flows_same ps t b.code)
-
-  marks_same : (t : ℕ) → all_marks r t ≡ all_marks b t
-  marks_same t =
-      ap (λ n. (live_at_start t r.code || ltb t n) ∷ marks_in_order (map (flow t) r.code) nowhere) ep ∙
-      ap (λ l. (l || ltb t b.params) ∷ marks_in_order (map (flow t) r.code) nowhere) (live_same t) ∙
-      ap (λ c. (live_at_start t b.code || ltb t b.params) ∷ marks_in_order (map (flow t) c) nowhere) ec ∙
-      ap (λ fs. (live_at_start t b.code || ltb t b.params) ∷ marks_in_order fs nowhere) (flows_same ps t b.code)
+  same_flows : (t : ℕ) → map (flow t) r.code ≡ map (flow t) b.code
+  same_flows t = ap (map (flow t)) ec ∙ flows_same ps t b.code
 
   pub whole_kept : IsWhole b → IsWhole r
-  whole_kept h t e = subst (λ n. t < n) (sym ep) (h t (sym (live_same t) ∙ e))
+  whole_kept = of_flows.whole_kept b r same_flows ep et
 
   pub temps_kept : HasTemps b → HasTemps r
-  temps_kept h i t e = subst (λ n. t < n) (sym et) (h i t (sym (ap (λ m. mark_at m i) (marks_same t)) ∙ e))
+  temps_kept = of_flows.temps_kept b r same_flows ep et
+
+  marks_same : (t : ℕ) → all_marks r t ≡ all_marks b t
+  marks_same = of_flows.same_marks b r same_flows ep et
 
   pub interval_same : (t : ℕ) → interval r t ≡ interval b t
   interval_same t = ap (filled false) (marks_same t)

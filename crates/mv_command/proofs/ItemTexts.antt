@@ -71,7 +71,9 @@ item_is text poll flip name value n v w same small few named cut behind numeral 
 
 -- the text of an item has no comma
 pub number_plain : (n : ℕ) → n < 2 ^ 59 → All (λ b. eqb b 44 ≡ false) (decimal n)
-number_plain n small k d here = let digit = digits_alone n k (decimal n) small refl here in let same = get_or_default (decimal n) k d 0 here in false_from_ne_true (eqb (get_or (decimal n) k d) 44) (λ is. omega (arith, digit, same, eqb-true (get_or (decimal n) k d) 44 is))
+number_plain n small k d here =
+    let digit = digits_alone n k (decimal n) small refl here in let same = get_or_default (decimal n) k d 0 here in
+    false_from_ne_true (eqb (get_or (decimal n) k d) 44) (λ is. omega (arith, digit, same, eqb-true (get_or (decimal n) k d) 44 is))
 
 value_plain : (value : ℤ) → IsValue value → All (λ b. eqb b 44 ≡ false) (signed_decimal value)
 value_plain (pos n) small = number_plain n (omega (arith, small))

@@ -3,7 +3,7 @@ use Rattle.std.specs.Prelude.{ℕ, ◌+◌, ◌*◌, ◌<◌, ◌≤◌, ◌≡�
 use Rattle.mv_num.specs.Regions.{text_limit}
 use Rattle.mv_ast.specs.declared.program.Program.{Program}
 use Rattle.mv_ast.specs.declared.program.Function.{Function}
-use Rattle.mv_ast.specs.Counts.{nodes, call_sites, assignments, patchable}
+use Rattle.mv_ast.specs.Counts.{nodes, call_sites, assignments, patchable_places}
 use Rattle.mv_ast.specs.Switches.{attributed_functions}
 use Rattle.mv_isa.specs.declared.labelled.Labelled.{Labelled}
 use Rattle.mv_isa.specs.Code.{text_start}
@@ -89,4 +89,4 @@ slots_in codes = sum (map (λ code. sites code.items) codes)
 abbrev pub SlotsAreCounted : Type 0
 SlotsAreCounted =
     (p : Program) → IsWellFormed p → (own : List Labelled) (variants : List (List Labelled)) → HaveCode p own → HaveVariantCodes p variants →
-    (slots_in own + sum (map slots_in variants) ≤ site_count p) × (length (attributed_functions p) + 2 * (slots_in own + sum (map slots_in variants)) ≤ patchable p)
+    (slots_in own + sum (map slots_in variants) ≤ site_count p) × (length (attributed_functions p) + 2 * (slots_in own + sum (map slots_in variants)) ≤ patchable_places p)

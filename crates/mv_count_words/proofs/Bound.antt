@@ -23,7 +23,7 @@ use Rattle.mv_fetch.specs.Held.{Held}
 use Rattle.mv_image.specs.Patched.{variants_before, guards_before, kinds_of, fitting_in, fitting_variant, variant_under, target_under}
 use Rattle.mv_image.specs.Spelling.{Fields}
 use Rattle.mv_image.proofs.RowsFit.{functions_fit}
-use Rattle.mv_patch.specs.Orders.{binding_count, pointer_bindings, bound_values, bound_now, next_binding, pointer_word, bound_to_target, next_pointer, words_now, word_in, ordered_rows, is_ordered, is_pointer_ordered, is_known_order, bindings_after}
+use Rattle.mv_patch.specs.Orders.{binding_count, pointer_bindings, bound_values, bound_now, next_binding, pointer_word, bound_to_target, next_pointer, words_of_switches, word_in, ordered_rows, is_ordered, is_pointer_ordered, is_known_order, bindings_ordered}
 use Rattle.mv_patch.specs.Plans.{plan_of}
 use Rattle.mv_patch.proofs.Rebinding.{ordered_count, behind_others}
 use Rattle.mv_machine.specs.Acts.{polls_of}
@@ -159,15 +159,15 @@ module _ (image : Fields) where
       take_both (suc n) (x ∷ xs) rest h = ap (λ l. x ∷ l) (take_both n xs rest (omega (arith, h)))
 
   now_one : (held : Held) (f : ℕ) (row : FunctionRow) → row.count ≤ 6 → IsOne f (bound_now image held f row)
-  now_one held f row few = by (is_some (fitting_variant image f (words_now image held row))) refl
+  now_one held f row few = by (is_some (fitting_variant image f (words_of_switches image held row))) refl
     where
-      by : (b : Bool) → is_some (fitting_variant image f (words_now image held row)) ≡ b → IsOne f (if b then bound_to (words_now image held row) else free)
+      by : (b : Bool) → is_some (fitting_variant image f (words_of_switches image held row)) ≡ b → IsOne f (if b then bound_to (words_of_switches image held row) else free)
       by false e = free_one f
       by true e = λ is. (
           let all = length-map (take row.count row.switches) (λ (s : ℕ). word_in held (slice_get image.switches s)) in
           let some = length-take row.count row.switches in
-          subst (λ (o : Option (List ℕ)). is_some (variant_under image f o) ≡ true) (sym (bound_is (words_now image held row) (omega (arith, all, some, few))))
-          (under_some f (words_now image held row) e))
+          subst (λ (o : Option (List ℕ)). is_some (variant_under image f o) ≡ true) (sym (bound_is (words_of_switches image held row) (omega (arith, all, some, few))))
+          (under_some f (words_of_switches image held row) e))
 
   next_one : (held : Held) (code f : ℕ) (row : FunctionRow) → row.count ≤ 6 → IsOne f (next_binding image held code f row)
   next_one held code f row few = by (is_commit code)
@@ -223,7 +223,7 @@ module _ (image : Fields) where
 
   module _ (few : (i : ℕ) (row : FunctionRow) → slice_get image.functions i ≡ Some row → row.count ≤ 6) where
     order_all : (held : Held) (old : List Binding) (code index : ℕ) → AreAll old → AreAll (plan_of image held old code index).bound
-    unfolding plan_of bindings_after
+    unfolding plan_of bindings_ordered
     order_all held old code index all =
         let first : List Binding = ordered_rows (is_ordered code index) (next_binding image held code) 0 image.functions old in
         let last : List Binding = ordered_rows (is_pointer_ordered image code index) (next_pointer image held code) 0 image.pointers (pointer_bindings image old) in

@@ -1,5 +1,5 @@
 -- An inline body begins with no JAL.
-use Rattle.std.proofs.Common.{arith, ◌≡◌, ◌≢◌, ℕ, ◌+◌, ◌*◌, ◌/◌, ◌%◌, Bool, true, false, cond, eqb, ltb, List, [], ◌∷◌, Option, Some, None, unwrap_or, slice_index}
+use Rattle.std.proofs.Common.{arith, ◌≡◌, ◌≢◌, ℕ, ◌+◌, ◌%◌, Bool, true, false, cond, eqb, ltb, List, [], ◌∷◌, Option, Some, None, unwrap_or, slice_index}
 use Rattle.std.specs.Prelude.{ℤ, pos}
 use Rattle.mv_isa.specs.declared.instr.Instr.{Instr}
 use Rattle.mv_isa.specs.declared.instr.Instr.TheVariants.{Lui, Addi}
@@ -7,7 +7,6 @@ use Rattle.mv_isa.specs.Code.{nop}
 use Rattle.mv_isa.specs.Encoding.{encode}
 use Rattle.mv_isa.specs.Formats.{i_word, u_word}
 use Rattle.mv_isa.specs.Registers.{a0}
-use Rattle.mv_image.specs.Jumps.{distance, jump}
 use Rattle.mv_ir.specs.declared.body.Body.{Body}
 use Rattle.mv_ir.specs.declared.stm.Stm.{Stm, out-Stm}
 use Rattle.mv_ir.specs.declared.stm.Stm.TheOpen.{Stm-F}
@@ -27,15 +26,6 @@ addi_opcode rd rs1 imm = omega arith
 lui_opcode : (rd : ℕ) (imm : ℤ) → encode (Lui rd imm) % 128 ≡ 55
 unfolding encode u_word
 lui_opcode rd imm = omega arith
-
-pub jump_opcode : (rd from to : ℕ) → jump rd from to % 128 ≡ 111
-unfolding jump
-jump_opcode rd from to =
-    let d : ℕ = distance from to in
-    opcode (d / 1048576 % 2) (d / 2 % 1024) (d / 2048 % 2) (d / 4096 % 256)
-  where
-    opcode : (p q s t : ℕ) → (p * 2147483648 + q * 2097152 + s * 1048576 + t * 4096 + rd * 128 + 111) % 128 ≡ 111
-    opcode p q s t = omega arith
 
 -- ---- the first instruction
 

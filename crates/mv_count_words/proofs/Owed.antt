@@ -133,7 +133,8 @@ module _ (have_slots : CalleesHaveSlots) (shows : TextShowsBindings) (unchanged 
       yes e =
           let own = ap {B = ℕ} (λ (t : Bool). if t then 1 + direct_calls_of f p else 0) e in
           let values : values_of bs j ≡ bound_values b = ap (option_and_then bound_values) is in
-          let some : is_some (variant_under image j (values_of bs j)) ≡ true = ap (λ (o : Option (List ℕ)). is_some (variant_under image j o)) values ∙ bound.fit j b (let within = slice_get_within (attributed_numbers p) j f at in omega (arith, within, count)) is e in
+          let some : is_some (variant_under image j (values_of bs j)) ≡ true = ap (λ (o : Option (List ℕ)). is_some (variant_under image j o)) values
+          ∙ bound.fit j b (let within = slice_get_within (attributed_numbers p) j f at in omega (arith, within, count)) is e in
           let shown = ap {B = ℕ} (λ (t : Bool). if t then 1 + sites_of j image.sites else 0) some in
           let least = sites_least j f at in omega (arith, own, shown, least)
 

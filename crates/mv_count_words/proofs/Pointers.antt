@@ -112,7 +112,9 @@ module _ (p : Program) (formed : IsWellFormed p) (below : AreBelow p) where
       abbrev here : ℕ → Bool
       here k = eqb (place_in lowered.rooms k) at
 
-      agree : (k : ℕ) → ir.is_there lowered.rooms lowered.arrays (array.Global k) ≡ true → of_pointers p g formed (often p f g of) (well_formed p f g of) x pointer here k ≡ of_pointers p g formed (often p f g of) (well_formed p f g of) x pointer (nat_eq x) k
+      agree : (k : ℕ) → ir.is_there lowered.rooms lowered.arrays (array.Global k) ≡ true
+          → of_pointers p g formed (often p f g of) (well_formed p f g of) x pointer here k ≡ of_pointers p g formed (often p f g of)
+          (well_formed p f g of) x pointer (nat_eq x) k
       agree k there = by (is_pointer p k) refl
         where
           by : (b : Bool) → is_pointer p k ≡ b → (here k && b) ≡ (nat_eq x k && b)

@@ -36,13 +36,14 @@ use Rattle.mv_linker.specs.Tables as linker
 use Rattle.mv_link_text.specs.Laws.{CodesFollow, CodesAscend, PatchedCodeStands}
 use Rattle.mv_link_text.specs.Text.{label_place, HasEntry}
 use Rattle.mv_link_changes.specs.Changed.{CanBeTold}
+use Rattle.mv_link_changes.proofs.Jumps.{jump_opcode}
 use Rattle.mv_variants.specs.declared.variant.Variant.{Variant}
 use Rattle.mv_parts.specs.Codes.{IsCodeOf}
 use Rattle.mv_parts.specs.Numbers.{attributed_numbers}
 use Rattle.mv_parts.specs.Parts.{ArePartsOf, ArePartVariants}
 use Rattle.mv_parts.proofs.Lists.{all_by_index, map_at, one_of_all}
 use Rattle.mv_parts.proofs.Numbers as numbered
-use Rattle.mv_count_words.proofs.Inlined.{addi_opcode, first_word, inline_plain, jump_opcode}
+use Rattle.mv_count_words.proofs.Inlined.{addi_opcode, first_word, inline_plain}
 use Rattle.mv_num.proofs.Lists.{there_at}
 
 -- ---- lists

@@ -6,13 +6,14 @@ use Rattle.mv_num.specs.Bytes.{bytes_of, AreWords}
 use Rattle.mv_num.specs.Regions.{text_start, text_limit, data_start, data_limit}
 use Rattle.mv_num.proofs.ByteLaws.{bytes_of-append, length-bytes_of}
 use Rattle.mv_image.specs.Spelling.{Fields}
+use Rattle.mv_image.proofs.FieldWords.{word_more, words_append}
 use Rattle.mv_elf.specs.declared.segment.Segment.{Segment}
 use Rattle.mv_elf.specs.Numbers.{half_at, word_at}
 use Rattle.mv_elf.specs.Header.{magic, header_size, program_size, executable, riscv, programs_at, entry_at, HasHeader}
 use Rattle.mv_elf.specs.Segments.{count_of, program_at, segment_of}
 use Rattle.mv_elf.specs.Notes.{head_size, name, begins}
 use Rattle.mv_elf.specs.Writing.{halves, header_words, program_words, note_of, count_in, text_at, data_at, note_at, text_program, data_program, note_program, note_head, front_words, file_of}
-use Rattle.mv_elf.proofs.WordReads.{no_words, words_more, words_both, word_read, low_read, in_part, HasProgram, segment_read}
+use Rattle.mv_elf.proofs.WordReads.{no_words, word_read, low_read, in_part, HasProgram, segment_read}
 use Rattle.mv_elf.proofs.HeaderHas.{header_has}
 
 -- What is known of an image: its numbers and the bytes of its note aren't too large for a file.
@@ -100,30 +101,35 @@ words_length image =
 
 program_fits : (kind offset address size flags : ℕ) → kind < 2 ^ 32 → offset < 2 ^ 32 → address < 2 ^ 32 → size < 2 ^ 32 → flags < 2 ^ 32 → AreWords (program_words kind offset address size flags)
 program_fits kind offset address size flags k o a s f =
-    let from_7 : AreWords (4 ∷ []) = words_more 4 [] (omega arith) no_words in
-    let from_6 : AreWords (flags ∷ 4 ∷ []) = words_more flags (4 ∷ []) f from_7 in
-    let from_5 : AreWords (size ∷ flags ∷ 4 ∷ []) = words_more size (flags ∷ 4 ∷ []) s from_6 in
-    let from_4 : AreWords (size ∷ size ∷ flags ∷ 4 ∷ []) = words_more size (size ∷ flags ∷ 4 ∷ []) s from_5 in
-    let from_3 : AreWords (address ∷ size ∷ size ∷ flags ∷ 4 ∷ []) = words_more address (size ∷ size ∷ flags ∷ 4 ∷ []) a from_4 in
-    let from_2 : AreWords (address ∷ address ∷ size ∷ size ∷ flags ∷ 4 ∷ []) = words_more address (address ∷ size ∷ size ∷ flags ∷ 4 ∷ []) a from_3 in
-    let from_1 : AreWords (offset ∷ address ∷ address ∷ size ∷ size ∷ flags ∷ 4 ∷ []) = words_more offset (address ∷ address ∷ size ∷ size ∷ flags ∷ 4 ∷ []) o from_2 in
-    words_more kind (offset ∷ address ∷ address ∷ size ∷ size ∷ flags ∷ 4 ∷ []) k from_1
+    let from_7 : AreWords (4 ∷ []) = word_more 4 [] (omega arith) no_words in
+    let from_6 : AreWords (flags ∷ 4 ∷ []) = word_more flags (4 ∷ []) f from_7 in
+    let from_5 : AreWords (size ∷ flags ∷ 4 ∷ []) = word_more size (flags ∷ 4 ∷ []) s from_6 in
+    let from_4 : AreWords (size ∷ size ∷ flags ∷ 4 ∷ []) = word_more size (size ∷ flags ∷ 4 ∷ []) s from_5 in
+    let from_3 : AreWords (address ∷ size ∷ size ∷ flags ∷ 4 ∷ []) = word_more address (size ∷ size ∷ flags ∷ 4 ∷ []) a from_4 in
+    let from_2 : AreWords (address ∷ address ∷ size ∷ size ∷ flags ∷ 4 ∷ []) = word_more address (address ∷ size ∷ size ∷ flags ∷ 4 ∷ []) a from_3 in
+    let from_1 : AreWords (offset ∷ address ∷ address ∷ size ∷ size ∷ flags ∷ 4 ∷ []) = word_more offset (address ∷ address ∷ size ∷ size ∷ flags ∷ 4 ∷ []) o from_2 in
+    word_more kind (offset ∷ address ∷ address ∷ size ∷ size ∷ flags ∷ 4 ∷ []) k from_1
 
 header_fits : (entry count : ℕ) → entry < 2 ^ 32 → count ≤ 3 → AreWords (header_words entry count)
 header_fits entry count e c =
-    let from_12 : AreWords (0 ∷ []) = words_more 0 [] (omega arith) no_words in
-    let from_11 : AreWords (count ∷ 0 ∷ []) = words_more count (0 ∷ []) (omega (arith, c)) from_12 in
-    let from_10 : AreWords (halves header_size program_size ∷ count ∷ 0 ∷ []) = words_more (halves header_size program_size) (count ∷ 0 ∷ []) (omega arith) from_11 in
-    let from_9 : AreWords (0 ∷ halves header_size program_size ∷ count ∷ 0 ∷ []) = words_more 0 (halves header_size program_size ∷ count ∷ 0 ∷ []) (omega arith) from_10 in
-    let from_8 : AreWords (0 ∷ 0 ∷ halves header_size program_size ∷ count ∷ 0 ∷ []) = words_more 0 (0 ∷ halves header_size program_size ∷ count ∷ 0 ∷ []) (omega arith) from_9 in
-    let from_7 : AreWords (header_size ∷ 0 ∷ 0 ∷ halves header_size program_size ∷ count ∷ 0 ∷ []) = words_more header_size (0 ∷ 0 ∷ halves header_size program_size ∷ count ∷ 0 ∷ []) (omega arith) from_8 in
-    let from_6 : AreWords (entry ∷ header_size ∷ 0 ∷ 0 ∷ halves header_size program_size ∷ count ∷ 0 ∷ []) = words_more entry (header_size ∷ 0 ∷ 0 ∷ halves header_size program_size ∷ count ∷ 0 ∷ []) e from_7 in
-    let from_5 : AreWords (1 ∷ entry ∷ header_size ∷ 0 ∷ 0 ∷ halves header_size program_size ∷ count ∷ 0 ∷ []) = words_more 1 (entry ∷ header_size ∷ 0 ∷ 0 ∷ halves header_size program_size ∷ count ∷ 0 ∷ []) (omega arith) from_6 in
-    let from_4 : AreWords (halves executable riscv ∷ 1 ∷ entry ∷ header_size ∷ 0 ∷ 0 ∷ halves header_size program_size ∷ count ∷ 0 ∷ []) = words_more (halves executable riscv) (1 ∷ entry ∷ header_size ∷ 0 ∷ 0 ∷ halves header_size program_size ∷ count ∷ 0 ∷ []) (omega arith) from_5 in
-    let from_3 : AreWords (0 ∷ halves executable riscv ∷ 1 ∷ entry ∷ header_size ∷ 0 ∷ 0 ∷ halves header_size program_size ∷ count ∷ 0 ∷ []) = words_more 0 (halves executable riscv ∷ 1 ∷ entry ∷ header_size ∷ 0 ∷ 0 ∷ halves header_size program_size ∷ count ∷ 0 ∷ []) (omega arith) from_4 in
-    let from_2 : AreWords (0 ∷ 0 ∷ halves executable riscv ∷ 1 ∷ entry ∷ header_size ∷ 0 ∷ 0 ∷ halves header_size program_size ∷ count ∷ 0 ∷ []) = words_more 0 (0 ∷ halves executable riscv ∷ 1 ∷ entry ∷ header_size ∷ 0 ∷ 0 ∷ halves header_size program_size ∷ count ∷ 0 ∷ []) (omega arith) from_3 in
-    let from_1 : AreWords (0x0001_0101 ∷ 0 ∷ 0 ∷ halves executable riscv ∷ 1 ∷ entry ∷ header_size ∷ 0 ∷ 0 ∷ halves header_size program_size ∷ count ∷ 0 ∷ []) = words_more 0x0001_0101 (0 ∷ 0 ∷ halves executable riscv ∷ 1 ∷ entry ∷ header_size ∷ 0 ∷ 0 ∷ halves header_size program_size ∷ count ∷ 0 ∷ []) (omega arith) from_2 in
-    words_more magic (0x0001_0101 ∷ 0 ∷ 0 ∷ halves executable riscv ∷ 1 ∷ entry ∷ header_size ∷ 0 ∷ 0 ∷ halves header_size program_size ∷ count ∷ 0 ∷ []) (omega arith) from_1
+    let from_12 : AreWords (0 ∷ []) = word_more 0 [] (omega arith) no_words in
+    let from_11 : AreWords (count ∷ 0 ∷ []) = word_more count (0 ∷ []) (omega (arith, c)) from_12 in
+    let from_10 : AreWords (halves header_size program_size ∷ count ∷ 0 ∷ []) = word_more (halves header_size program_size) (count ∷ 0 ∷ []) (omega arith) from_11 in
+    let from_9 : AreWords (0 ∷ halves header_size program_size ∷ count ∷ 0 ∷ []) = word_more 0 (halves header_size program_size ∷ count ∷ 0 ∷ []) (omega arith) from_10 in
+    let from_8 : AreWords (0 ∷ 0 ∷ halves header_size program_size ∷ count ∷ 0 ∷ []) = word_more 0 (0 ∷ halves header_size program_size ∷ count ∷ 0 ∷ []) (omega arith) from_9 in
+    let from_7 : AreWords (header_size ∷ 0 ∷ 0 ∷ halves header_size program_size ∷ count ∷ 0 ∷ []) = word_more header_size (0 ∷ 0 ∷ halves header_size program_size ∷ count ∷ 0 ∷ []) (omega arith) from_8 in
+    let from_6 : AreWords (entry ∷ header_size ∷ 0 ∷ 0 ∷ halves header_size program_size ∷ count ∷ 0 ∷ []) = word_more entry (header_size ∷ 0 ∷ 0 ∷ halves header_size program_size ∷ count ∷ 0 ∷ []) e from_7 in
+    let from_5 : AreWords (1 ∷ entry ∷ header_size ∷ 0 ∷ 0 ∷ halves header_size program_size ∷ count ∷ 0 ∷ []) = word_more 1 (entry ∷ header_size ∷ 0 ∷ 0 ∷ halves header_size program_size ∷ count ∷ 0 ∷ []) (omega arith) from_6 in
+    let from_4 : AreWords (halves executable riscv ∷ 1 ∷ entry ∷ header_size ∷ 0 ∷ 0 ∷ halves header_size program_size ∷ count ∷ 0 ∷ []) =
+    word_more (halves executable riscv) (1 ∷ entry ∷ header_size ∷ 0 ∷ 0 ∷ halves header_size program_size ∷ count ∷ 0 ∷ []) (omega arith) from_5 in
+    let from_3 : AreWords (0 ∷ halves executable riscv ∷ 1 ∷ entry ∷ header_size ∷ 0 ∷ 0 ∷ halves header_size program_size ∷ count ∷ 0 ∷ []) =
+    word_more 0 (halves executable riscv ∷ 1 ∷ entry ∷ header_size ∷ 0 ∷ 0 ∷ halves header_size program_size ∷ count ∷ 0 ∷ []) (omega arith) from_4 in
+    let from_2 : AreWords (0 ∷ 0 ∷ halves executable riscv ∷ 1 ∷ entry ∷ header_size ∷ 0 ∷ 0 ∷ halves header_size program_size ∷ count ∷ 0 ∷ []) =
+    word_more 0 (0 ∷ halves executable riscv ∷ 1 ∷ entry ∷ header_size ∷ 0 ∷ 0 ∷ halves header_size program_size ∷ count ∷ 0 ∷ []) (omega arith) from_3 in
+    let from_1 : AreWords (0x0001_0101 ∷ 0 ∷ 0 ∷ halves executable riscv ∷ 1 ∷ entry ∷ header_size ∷ 0 ∷ 0 ∷ halves header_size program_size ∷ count
+    ∷ 0 ∷ []) = word_more 0x0001_0101 (0 ∷ 0 ∷ halves executable riscv ∷ 1 ∷ entry ∷ header_size ∷ 0 ∷ 0 ∷ halves header_size program_size ∷ count
+    ∷ 0 ∷ []) (omega arith) from_2 in
+    word_more magic (0x0001_0101 ∷ 0 ∷ 0 ∷ halves executable riscv ∷ 1 ∷ entry ∷ header_size ∷ 0 ∷ 0 ∷ halves header_size program_size ∷ count ∷ 0 ∷ []) (omega arith) from_1
 
 words_fit : (image : Fields) → IsSmall image → AreWords (front_words image)
 words_fit image small =
@@ -132,18 +138,18 @@ words_fit image small =
     let globals = program_fits 1 (data_at image) data_start (4 * length image.globals) 6 (omega arith) (omega (arith, c, small.text)) (omega arith) (omega (arith, small.globals)) (omega arith) in
     let some = cond_both {A = List ℕ} (length image.globals == 0) [] (program_words 1 (data_at image) data_start (4 * length image.globals) 6) AreWords (λ _. no_words) (λ _. globals) in
     let note = program_fits 4 (note_at image) 0 (head_size + length (note_of image)) 4 (omega arith) (omega (arith, c, small.text, small.globals)) (omega arith) (omega (arith, small.note)) (omega arith) in
-    let name_fits : AreWords (name ∷ []) = words_more name [] (omega arith) no_words in
-    let type_fits : AreWords (1 ∷ name ∷ []) = words_more 1 (name ∷ []) (omega arith) name_fits in
-    let size_fits : AreWords (length (note_of image) ∷ 1 ∷ name ∷ []) = words_more (length (note_of image)) (1 ∷ name ∷ []) (omega (arith, small.note)) type_fits in
-    let head : AreWords (note_head image) = words_more 4 (length (note_of image) ∷ 1 ∷ name ∷ []) (omega arith) size_fits in
+    let name_fits : AreWords (name ∷ []) = word_more name [] (omega arith) no_words in
+    let type_fits : AreWords (1 ∷ name ∷ []) = word_more 1 (name ∷ []) (omega arith) name_fits in
+    let size_fits : AreWords (length (note_of image) ∷ 1 ∷ name ∷ []) = word_more (length (note_of image)) (1 ∷ name ∷ []) (omega (arith, small.note)) type_fits in
+    let head : AreWords (note_head image) = word_more 4 (length (note_of image) ∷ 1 ∷ name ∷ []) (omega arith) size_fits in
     let front : List ℕ = header_words image.entry (count_in image) in
-    let one = words_both front (text_program image) (header_fits image.entry (count_in image) small.entry c) text in
-    let two = words_both (front ++ text_program image) (data_program image) one some in
-    let all_headers = words_both (front ++ text_program image ++ data_program image) (note_program image) two note in
+    let one = words_append front (text_program image) (header_fits image.entry (count_in image) small.entry c) text in
+    let two = words_append (front ++ text_program image) (data_program image) one some in
+    let all_headers = words_append (front ++ text_program image ++ data_program image) (note_program image) two note in
     let before : List ℕ = front ++ text_program image ++ data_program image ++ note_program image in
-    let with_text = words_both before image.text all_headers small.text_words in
-    let with_code = words_both (before ++ image.text) image.globals with_text small.globals_words in
-    let all = words_both (before ++ image.text ++ image.globals) (note_head image) with_code head in
+    let with_text = words_append before image.text all_headers small.text_words in
+    let with_code = words_append (before ++ image.text) image.globals with_text small.globals_words in
+    let all = words_append (before ++ image.text ++ image.globals) (note_head image) with_code head in
     subst AreWords (sym (words_are image)) all
 
 -- ---- the segments

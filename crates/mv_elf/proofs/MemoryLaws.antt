@@ -2,7 +2,7 @@
 use Rattle.std.proofs.Common.{◌≡◌, ◌<◌, ◌≤◌, ◌+◌, ◌*◌, ◌-◌, ◌∙◌, ℕ, suc, List, length, slice_index, slice_range, take, drop, ◌++◌, subst, true, false, sym, ap, refl, arith, inl, inr, map}
 use Rattle.std.specs.List.{range_with_len}
 use Rattle.std.proofs.lemmas.Bool.{cases_lt, cases_Bool, and_right, and_left, and_from, or_cases, both_ways, cond-false, cond-true, lt-leb, le-ltb, le-leb, lt-ltb}
-use Rattle.std.proofs.lemmas.List.{get_or_append_left, get_or-append_right, get_or-take, get_or-drop, length-take-le, length-drop}
+use Rattle.std.proofs.lemmas.List.{get_or_append_left, get_or-append_right, get_or-take, get_or-drop, length-take-le}
 use Rattle.std.proofs.lemmas.List.FromFn.{length-map-range_with_len, get_or-map-range_with_len}
 use borrow.Rule.Slice.PartMut.{put_mid}
 use Rattle.mv_num.proofs.Lists.{same_lists}
@@ -12,6 +12,7 @@ use Rattle.mv_elf.specs.declared.segment.Segment.{Segment}
 use Rattle.mv_elf.specs.Segments.{region_start, region_end, count_of, segment_of, is_loaded, lies_in, reach, is_right, AreRight}
 use Rattle.mv_elf.specs.Memory.{words_in, covers, loaded_over, byte_of, bytes_in}
 use Rattle.mv_elf.proofs.SegmentLaws.{lies, placed, there, loaded_bytes, reach-holds, reach-most}
+use Rattle.mv_image.proofs.Parts.{range_length}
 
 -- a segment covers the addresses of its bytes of the file
 
@@ -75,7 +76,8 @@ unfolding words_in
 words_room Text bytes = omega (arith, reach-most Text bytes (count_of bytes))
 words_room Data bytes = omega (arith, reach-most Data bytes (count_of bytes))
 
-pub words_hold : (region : Region) (bytes : List ℕ) (i : ℕ) → i < count_of bytes → lies_in region (segment_of bytes i) ≡ true → (segment_of bytes i).address + (segment_of bytes i).memory_size ≤ region_start region + 4 * words_in bytes region
+pub words_hold : (region : Region) (bytes : List ℕ) (i : ℕ) → i < count_of bytes → lies_in region (segment_of bytes i) ≡ true
+    → (segment_of bytes i).address + (segment_of bytes i).memory_size ≤ region_start region + 4 * words_in bytes region
 unfolding words_in
 words_hold region bytes i lt e = omega (arith, reach-holds (lies_in region) bytes (count_of bytes) i lt e)
 
@@ -119,7 +121,8 @@ pub inside : (bytes : List ℕ) (s : Segment) (start k under : ℕ) → is_loade
     → loaded_over bytes s (start + k) under ≡ slice_index bytes (s.offset + (start + k - s.address))
 inside bytes s start k under loaded from to = loaded_byte bytes s (start + k) under (covered s (start + k) loaded from to)
 
-pub room_for : (region : Region) (bytes : List ℕ) (i : ℕ) (s : Segment) → AreRight bytes (count_of bytes) → i < count_of bytes → s ≡ segment_of bytes i → lies_in region s ≡ true → s.address + s.file_size ≤ region_start region + 4 * words_in bytes region
+pub room_for : (region : Region) (bytes : List ℕ) (i : ℕ) (s : Segment) → AreRight bytes (count_of bytes) → i < count_of bytes
+    → s ≡ segment_of bytes i → lies_in region s ≡ true → s.address + s.file_size ≤ region_start region + 4 * words_in bytes region
 room_for region bytes i s right lt is in_region =
     let loaded : lies_in region (segment_of bytes i) ≡ true = subst (λ (z : Segment). lies_in region z ≡ true) is in_region in
     let place = placed (reach is_loaded bytes i) (segment_of bytes i) (right.right i lt) (lies region (segment_of bytes i) loaded).loaded in
@@ -133,9 +136,6 @@ bytes_for region bytes i s right lt is in_region =
     let file = loaded_bytes bytes (segment_of bytes i) (there bytes i (right.there i lt)).file (lies region (segment_of bytes i) loaded).loaded in
     let same : s.offset + s.file_size ≡ (segment_of bytes i).offset + (segment_of bytes i).file_size = ap (λ (z : Segment). z.offset + z.file_size) is in
     omega (arith, file, same)
-
-range_length : (xs : List ℕ) (a b : ℕ) → a ≤ b → b ≤ length xs → length (slice_range xs a b) ≡ b - a
-range_length xs a b ab le = length-take-le (b - a) (drop a xs) (omega (arith, length-drop a xs, ab, le))
 
 -- the bytes of a part that is written over
 pub put_over : (region : Region) (bytes old cells : List ℕ) (s : Segment) (at n : ℕ) → lies_in region s ≡ true → at ≡ s.address - region_start region → n ≡ s.file_size → cells ≡ slice_range bytes s.offset (s.offset + s.file_size)

@@ -1,5 +1,5 @@
 -- What a note gives, and when it gives nothing.
-use Rattle.std.proofs.Common.{◌≡◌, ◌<◌, ◌≤◌, ◌+◌, ◌*◌, ◌-◌, ◌∙◌, ◌⊎◌, ◌==◌, ◌&&◌, nat_le, drop, ℕ, zero, suc, List, length, slice_index, slice_range, true, false, sym, ap, subst, refl, arith, inl, inr, map}
+use Rattle.std.proofs.Common.{◌≡◌, ◌<◌, ◌≤◌, ◌+◌, ◌*◌, ◌-◌, ◌∙◌, ◌==◌, ◌&&◌, nat_le, drop, ℕ, zero, suc, List, length, slice_index, slice_range, true, false, sym, ap, subst, refl, arith, inl, inr, map}
 use Rattle.std.specs.List.{range_with_len}
 use Rattle.std.proofs.lemmas.Bool.{cases_lt, and_parts, and_from, both_ways, eqb-true, eq-eqb, leb-true, cond_both}
 use Rattle.std.proofs.lemmas.List.{get_or_past, length-take-le, length-drop}
@@ -116,14 +116,6 @@ gives bytes note content whole text globals entry size image r fits spells is =
       text = code.text;
       globals = code.globals;
     }
-
-pub cut_short : (bytes : List ℕ) (note : Segment) (size : ℕ) (image : Fields) → size ≡ content_size bytes note → (note.file_size < head_size + size) ⊎ (size < front_size) → Gives bytes note image → ⊥
-cut_short bytes note size image is (inl past) g = omega (arith, is, past, g.inside)
-cut_short bytes note size image is (inr short) g = omega (arith, is, short, g.whole)
-
-pub spells_none : (bytes : List ℕ) (note : Segment) (content whole text globals : List ℕ) (entry size : ℕ) (image : Fields) → IsRead bytes note content whole text globals entry size → ((image : Fields) → Spells whole image → ⊥)
-    → Gives bytes note image → ⊥
-spells_none bytes note content whole text globals entry size image r none g = none image (subst (λ (b : List ℕ). Spells b image) (sym (whole_spelled bytes note content whole text globals entry size r)) g.spelled)
 
 pub is_other : (bytes : List ℕ) (note : Segment) (content whole text globals : List ℕ) (entry size : ℕ) (found image : Fields) → IsRead bytes note content whole text globals entry size → Spells whole found
     → is_image_of found entry (length text) (length globals) ≡ false → Gives bytes note image → ⊥

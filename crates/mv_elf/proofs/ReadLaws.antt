@@ -56,7 +56,8 @@ note_fault bytes note i (Err (Foreign at)) program first fault = absurd fault
 note_fault bytes note i (Err (BadNote at)) program first fault = (note, i, record { program = program; first = first; no_image = fault.1; at_is = fault.0 })
 note_fault bytes note i (Err (Memory e)) program first fault = tt
 
-pub plain : (bytes : List ℕ) (image : Fields) (entry : ℕ) (text globals : List ℕ) → IsProgram bytes → HasNoNote bytes → image ≡ bare entry text globals → entry ≡ entry_of bytes → text ≡ text_of bytes → globals ≡ data_of bytes → Holds bytes image
+pub plain : (bytes : List ℕ) (image : Fields) (entry : ℕ) (text globals : List ℕ) → IsProgram bytes → HasNoNote bytes
+    → image ≡ bare entry text globals → entry ≡ entry_of bytes → text ≡ text_of bytes → globals ≡ data_of bytes → Holds bytes image
 plain bytes image entry text globals program no_note is entry_is text_is globals_is =
     inl (record {
       program = program;

@@ -114,7 +114,8 @@ reach-most region bytes (suc n) =
 
 -- ---- steps of a loop over segments
 
-pub reached_more : (test : Segment → Bool) (bytes : List ℕ) (i r end new : ℕ) (s : Segment) → s ≡ segment_of bytes i → test s ≡ true → r ≡ reach test bytes i → end ≡ s.address + s.memory_size → new ≡ max r end → new ≡ reach test bytes (i + 1)
+pub reached_more : (test : Segment → Bool) (bytes : List ℕ) (i r end new : ℕ) (s : Segment) → s ≡ segment_of bytes i → test s ≡ true
+    → r ≡ reach test bytes i → end ≡ s.address + s.memory_size → new ≡ max r end → new ≡ reach test bytes (i + 1)
 reached_more test bytes i r end new s is passes was ends made =
     made ∙ ap (λ (x : ℕ). max x end) was ∙ ap (λ (x : ℕ). max (reach test bytes i) x) (ends ∙ ap (λ (z : Segment). z.address + z.memory_size) is)
     ∙ sym (reach-yes test bytes i (subst (λ (z : Segment). test z ≡ true) is passes))

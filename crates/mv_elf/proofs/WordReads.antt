@@ -1,5 +1,5 @@
 -- Numbers that are read of the bytes of words.
-use Rattle.std.proofs.Common.{◌≡◌, ◌<◌, ◌≤◌, ◌+◌, ◌*◌, ◌/◌, ◌%◌, ◌^◌, ◌∙◌, ◌++◌, ◌∷◌, [], ℕ, zero, suc, List, length, slice_index, ap, refl, arith}
+use Rattle.std.proofs.Common.{◌≡◌, ◌<◌, ◌≤◌, ◌+◌, ◌*◌, ◌/◌, ◌%◌, ◌∙◌, ◌++◌, ◌∷◌, [], ℕ, zero, suc, List, length, slice_index, ap, refl, arith}
 use Rattle.std.proofs.lemmas.List.{get_or-append-add}
 use Rattle.mv_num.specs.Bytes.{bytes_of, AreWords}
 use Rattle.mv_num.proofs.ByteLaws.{bytes-number}
@@ -11,15 +11,6 @@ use Rattle.mv_elf.specs.Segments.{segment_at}
 
 pub no_words : AreWords []
 no_words i = omega arith
-
-pub words_more : (w : ℕ) (ws : List ℕ) → w < 2 ^ 32 → AreWords ws → AreWords (w ∷ ws)
-words_more w ws fits rest zero = fits
-words_more w ws fits rest (suc i) = rest i
-
-pub words_both : (xs ys : List ℕ) → AreWords xs → AreWords ys → AreWords (xs ++ ys)
-words_both [] ys fx fy i = fy i
-words_both (x ∷ xs) ys fx fy zero = fx 0
-words_both (x ∷ xs) ys fx fy (suc i) = words_both xs ys (λ k. fx (suc k)) fy i
 
 -- ---- a byte of a word
 

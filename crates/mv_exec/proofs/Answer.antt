@@ -8,8 +8,8 @@ use Rattle.mv_image.specs.Spelling.{Fields}
 use Rattle.mv_image.specs.declared.fault.ImageError.{ImageError}
 use Rattle.mv_image.specs.declared.fault.ImageError.TheVariants as fault
 use Rattle.mv_image.proofs.OneVerdict.{one_image, one_fault, spelled_has_none}
-use Rattle.mv_operator.specs.Operator.{IsImageActions, IsImageFirstWrong}
-use Rattle.mv_operator.proofs.Acting.{not_both_in, one_wrong_in, one_list_in}
+use Rattle.mv_actions.specs.Operator.{IsImageActions, IsImageFirstWrong}
+use Rattle.mv_actions.proofs.Acting.{not_both_in, one_wrong_in, one_list_in}
 use Rattle.mv_exec.specs.Loading.{IsBadImage, truncated, bad_field, trailing, IsWrongItem, IsNotLoaded, IsLoaded, IsMemory}
 use Rattle.mv_exec.specs.declared.loaded.Loaded.{Loaded}
 use Rattle.mv_exec.specs.declared.error.LoadError.{LoadError}

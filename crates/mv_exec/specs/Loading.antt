@@ -4,7 +4,7 @@ use Rattle.mv_command.specs.declared.items.Item.{Item}
 use Rattle.mv_image.specs.Faults.{Spells, FirstFault}
 use Rattle.mv_image.specs.Spelling.{Fields}
 use Rattle.mv_image.specs.declared.fault.ImageError.TheVariants.{Truncated, BadField, Trailing}
-use Rattle.mv_operator.specs.Operator.{IsImageActions, IsImageFirstWrong}
+use Rattle.mv_actions.specs.Operator.{IsImageActions, IsImageFirstWrong}
 use Rattle.mv_exec.specs.declared.loaded.Loaded.{Loaded}
 use Rattle.mv_exec.specs.declared.error.LoadError.{LoadError}
 use Rattle.mv_exec.specs.declared.error.LoadError.TheVariants as errors

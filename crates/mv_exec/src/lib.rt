@@ -11,7 +11,7 @@ ghost use Rattle.std.specs.Prelude.{◌≡◌, ℕ, List, All, IfErr, IfOk, IsTr
 ghost use Rattle.mv_command.specs.declared.items.Item.{Item};
 ghost use Rattle.mv_command.specs.Items.{Ascend};
 ghost use Rattle.mv_image.specs.Faults.{Spells};
-ghost use Rattle.mv_machine.specs.Actions.{fits};
+ghost use Rattle.mv_machine.specs.Actions.{fits_rows};
 ghost use Rattle.mv_exec.specs.Loading.{IsLoaded, IsNotLoaded, IsNotRead, IsMemory};
 ghost use Rattle.mv_exec.specs.declared.error.LoadError.{LoadError};
 ghost use Rattle.mv_exec.specs.declared.loaded.Loaded.{Loaded};
@@ -21,10 +21,10 @@ mod loaded;
 
 pub use error::LoadError;
 pub use loaded::Loaded;
+use mv_actions::{ActionsError, actions_of_image};
 use mv_command::Item;
 use mv_image::{Image, ImageError, read};
 use mv_num::list::List;
-use mv_operator::{ActionsError, actions_of_image};
 use std::alloc::Global;
 
 /// The image that the bytes spell. An error is the first fault of the bytes, or want of memory.
@@ -46,7 +46,7 @@ pub fn read_image(alloc: Global, bytes: &[u8]) -> Result<Image, LoadError>
 pub fn load(alloc: Global, bytes: &[u8], items: &List<Item>) -> Result<Loaded, LoadError>
     requires { Ascend 0 items.now }
     ensures ok { IfOk result (λ loaded. IsLoaded bytes.now items.now loaded) }
-    ensures fit { IfOk result (λ loaded. All (λ action. IsTrue (fits loaded.image.switches action)) loaded.actions.items) }
+    ensures fit { IfOk result (λ loaded. All (λ action. IsTrue (fits_rows loaded.image.switches action)) loaded.actions.items) }
     ensures err { IfErr result (λ error. IsNotLoaded bytes.now items.now error) }
 {
     let image = read_image(alloc, bytes)?;

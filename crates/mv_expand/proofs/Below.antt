@@ -1,7 +1,6 @@
 -- Code that names only temporaries below a number: those that are live or written at a position of the code.
-use Rattle.std.proofs.Common.{◌≡◌, ℕ, suc, ◌<◌, Bool, true, false, not, ◌&&◌, ◌||◌, List, [], ◌∷◌, ◌++◌, map, Option, refl, ap, ◌∙◌}
+use Rattle.std.proofs.Common.{◌≡◌, ℕ, suc, ◌<◌, Bool, true, false, not, ◌&&◌, ◌||◌, List, [], ◌∷◌, ◌++◌, map, Option, ap, ◌∙◌}
 use Rattle.std.proofs.lemmas.Bool.{or_left, or_right}
-use Rattle.mv_num.proofs.Booleans.{from_falsity}
 use Rattle.mv_ast.specs.Names.{any_of}
 use Rattle.mv_ir.specs.declared.tree.Tree.{Tree}
 use Rattle.mv_ir.specs.declared.stm.Stm.{Stm}
@@ -9,10 +8,11 @@ use Rattle.mv_ir.specs.declared.stm.Stm.TheOpen.{Stm-F}
 use Rattle.mv_ir.specs.declared.stm.Stm.TheOpen as stm
 use Rattle.mv_ir.specs.declared.stm.Stm.TheViews.{roll-Stm}
 use Rattle.mv_ir.specs.declared.body.Body.{Body}
-use Rattle.mv_ir.specs.Live.{reads_temp, any_reads, is, Around, with_after, around_block, around_loop, live_in_order, marks_in_order, live_at_loop, plain, flow, nowhere, mark_at, HasTemps}
+use Rattle.mv_ir.specs.Live.{reads_temp, any_reads, is, Around, with_after, around_block, around_loop, live_in_order, marks_in_order, live_at_loop, plain, flow, nowhere, HasTemps}
 use Rattle.mv_ir.proofs.Induction.{Each}
-use Rattle.mv_ir.proofs.Joining.{any_append, any_reads_append}
+use Rattle.mv_ir.proofs.Joining.{reads_left, reads_right, any_left, any_right}
 use Rattle.mv_ir.proofs.Rolls.{flow_roll, flow_of_layer}
+use Rattle.mv_fold.proofs.Marks.{any_marked}
 
 -- of a tree's reads, and of the marks of each temporary
 abbrev pub ReadsBelow : ℕ → Tree → Type 0
@@ -44,22 +44,16 @@ pub rest_read : (n : ℕ) (x : Tree) (xs : List Tree) → AllReadBelow n (x ∷ 
 rest_read n x xs h t e = h t (or_right (reads_temp t x) (any_reads t xs) e)
 
 pub left_read : (n : ℕ) (xs ys : List Tree) → AllReadBelow n (xs ++ ys) → AllReadBelow n xs
-left_read n xs ys h t e = h t (any_reads_append t xs ys ∙ or_left (any_reads t xs) (any_reads t ys) e)
+left_read n xs ys h t e = h t (reads_left t xs ys e)
 
 pub right_read : (n : ℕ) (xs ys : List Tree) → AllReadBelow n (xs ++ ys) → AllReadBelow n ys
-right_read n xs ys h t e = h t (any_reads_append t xs ys ∙ or_right (any_reads t xs) (any_reads t ys) e)
+right_read n xs ys h t e = h t (reads_right t xs ys e)
 
 pub each_read : (n : ℕ) (xs : List Tree) → AllReadBelow n xs → Each (ReadsBelow n) xs
 each_read n [] h = tt
 each_read n (x ∷ xs) h = (first_read n x xs h, each_read n xs (rest_read n x xs h))
 
 -- ---- parts
-
-any_left : (xs ys : List Bool) → any_of xs ≡ true → any_of (xs ++ ys) ≡ true
-any_left xs ys e = any_append xs ys ∙ or_left (any_of xs) (any_of ys) e
-
-any_right : (xs ys : List Bool) → any_of ys ≡ true → any_of (xs ++ ys) ≡ true
-any_right xs ys e = any_append xs ys ∙ or_right (any_of xs) (any_of ys) e
 
 module _ (n : ℕ) where
   pub first_below : (s : Stm) (rest : List Stm) → AreBelow n (s ∷ rest) → IsBelow n s
@@ -112,10 +106,5 @@ module _ (n : ℕ) where
 
 -- ---- bodies
 
-marked : (xs : List Bool) → any_of xs ≡ true → (i : ℕ) × (mark_at xs i ≡ true)
-marked [] e = from_falsity e
-marked (true ∷ xs) e = (0, refl)
-marked (false ∷ xs) e = let m = marked xs e in (suc m.0, m.1)
-
 pub body_below : (b : Body) → HasTemps b → AreBelow b.temps b.code
-body_below b h = record { around = λ t. nowhere; marks = λ t e. let m = marked (marks_in_order (map (flow t) b.code) nowhere) e in h (suc m.0) t m.1 }
+body_below b h = record { around = λ t. nowhere; marks = λ t e. let m = any_marked (marks_in_order (map (flow t) b.code) nowhere) e in h (suc m.0) t m.1 }

@@ -7,13 +7,9 @@ use Rattle.mv_ir.specs.Trees.{nodes, nodes_of_all}
 use Rattle.mv_ir.specs.Measures.{total, stm_size, stm_trees, trees}
 use Rattle.mv_ir.specs.Rolled.{set, divide, return_with}
 use Rattle.mv_ir.proofs.Keeping.{map_append}
-use Rattle.mv_ir.proofs.Joining.{nodes_append, trees_append}
+use Rattle.mv_ir.proofs.Joining.{nodes_append, trees_append, total_append}
 use Rattle.mv_ir.proofs.Rolls.{size_roll, trees_roll}
 use Rattle.mv_expand.specs.Placed.{straight_cost}
-
-total_append : (xs ys : List ℕ) → total (xs ++ ys) ≡ total xs + total ys
-total_append [] ys = omega arith
-total_append (x ∷ xs) ys = omega (arith, total_append xs ys)
 
 pub cost_append : (xs ys : List Stm) → straight_cost (xs ++ ys) ≡ straight_cost xs + straight_cost ys
 cost_append xs ys =

@@ -1,15 +1,12 @@
 -- What code costs and how deep trees are, at each variant.
-use Rattle.std.proofs.Common.{◌≡◌, ℕ, suc, ◌+◌, ◌-◌, ◌*◌, ◌^◌, ◌<◌, ◌≤◌, List, [], ◌∷◌, ◌++◌, length, map, max, take, get_or, Option, refl, sym, ◌∙◌, ap, arith}
+use Rattle.std.proofs.Common.{◌≡◌, ℕ, suc, ◌+◌, ◌-◌, ◌*◌, ◌^◌, ◌<◌, ◌≤◌, List, [], ◌∷◌, length, take, get_or, Option, sym, ◌∙◌, ap, arith}
 use Rattle.std.proofs.lemmas.List.{take_more}
 use Rattle.mv_num.specs.declared.kind.Kind.{Kind}
 use Rattle.mv_ast.specs.declared.program.Known.{Known}
 use Rattle.mv_ir.specs.declared.tree.Tree.{Tree}
 use Rattle.mv_ir.specs.declared.tree.Tree as tr
-use Rattle.mv_ir.specs.declared.tree.Tree.TheOpen.{Tree-F}
 use Rattle.mv_ir.specs.declared.tree.Tree.TheOpen as tree
 use Rattle.mv_ir.specs.declared.tree.Tree.TheVariants.{rolls-Number, rolls-Temp, rolls-Global, rolls-Function, rolls-Unary, rolls-Binary, rolls-Narrow}
-use Rattle.mv_ir.specs.declared.tree.Tree.TheViews.{roll-Tree}
-use Rattle.mv_ir.specs.declared.tree.Tree.TheFolds.{fold-roll-Tree, map-Tree}
 use Rattle.mv_ir.specs.declared.stm.Array.{Array}
 use Rattle.mv_ir.specs.declared.stm.Callee.{Callee}
 use Rattle.mv_ir.specs.declared.stm.Stm.{Stm}
@@ -18,15 +15,15 @@ use Rattle.mv_ir.specs.declared.stm.Stm.TheOpen.{Stm-F}
 use Rattle.mv_ir.specs.declared.stm.Stm.TheOpen as stm
 use Rattle.mv_ir.specs.declared.stm.Stm.TheVariants.{rolls-Set, rolls-SetGlobal, rolls-Divide, rolls-Check, rolls-Read, rolls-Write, rolls-Zero, rolls-If, rolls-Loop, rolls-Block, rolls-Break, rolls-Back, rolls-Call, rolls-Known, rolls-Return}
 use Rattle.mv_ir.specs.declared.stm.Stm.TheViews.{roll-Stm}
-use Rattle.mv_ir.specs.declared.stm.Stm.TheFolds.{fold-roll-Stm, map-Stm}
-use Rattle.mv_ir.specs.Trees.{depth, nodes, nodes_of_all}
-use Rattle.mv_ir.specs.Measures.{joined, callee_trees, deepest, deepest_of, layer_trees, layer_size, statements, stm_size, stm_trees, total, tree_nodes, trees}
+use Rattle.mv_ir.specs.declared.stm.Stm.TheFolds.{map-Stm}
+use Rattle.mv_ir.specs.Trees.{nodes, nodes_of_all}
+use Rattle.mv_ir.specs.Measures.{callee_trees, layer_trees, layer_size, stm_size, stm_trees, trees}
 use Rattle.mv_ir.proofs.Rolls.{nodes_roll, size_roll, trees_roll}
 use Rattle.mv_ir.proofs.Common.{depth_number, depth_temp, depth_global, depth_function, depth_unary, depth_binary, depth_narrow}
-use Rattle.mv_ir.proofs.Joining.{nodes_append, total_append, trees_append}
-use Rattle.mv_ir.proofs.Keeping.{map_append}
+use Rattle.mv_ir.proofs.Joining.{nodes_append}
 use Rattle.mv_expand.specs.Placed.{straight_cost}
 use Rattle.mv_expand.specs.Walking.{capped, stm_cost}
+use Rattle.mv_expand.proofs.Costs.{cost_append}
 
 pub ruleset depths = (depth_number, depth_temp, depth_global, depth_function, depth_unary, depth_binary, depth_narrow)
 
@@ -108,10 +105,6 @@ cost_return v = ap stm_cost (sym (rolls-Return v)) ∙ cost_roll (stm.Return v) 
 pub ruleset stm_costs = (cost_set, cost_setglobal, cost_divide, cost_check, cost_read, cost_write, cost_zero, cost_if, cost_loop, cost_block, cost_break, cost_back, cost_call, cost_known, cost_return)
 
 -- ---- lists
-
-pub cost_append : (xs ys : List Stm) → straight_cost (xs ++ ys) ≡ straight_cost xs + straight_cost ys
-cost_append xs ys =
-    omega (arith, ap total (map_append stm_size xs ys), total_append (map stm_size xs) (map stm_size ys), ap nodes_of_all (trees_append xs ys), nodes_append (trees xs) (trees ys))
 
 pub cost_more : (code : List Stm) (i : ℕ) (d : Stm) → i < length code → straight_cost (take (i + 1) code) ≡ straight_cost (take i code) + stm_cost (get_or code i d)
 cost_more code i d lt = ap straight_cost (take_more code i d lt) ∙ omega (arith, cost_append (take i code) (get_or code i d ∷ []), nodes_append (stm_trees (get_or code i d)) [])

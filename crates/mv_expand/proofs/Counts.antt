@@ -1,6 +1,6 @@
 -- What code reads, calls, names and asks for doesn't grow when short bodies stand in place of calls.
-use Rattle.std.proofs.Common.{arith, ◌≡◌, ℕ, suc, ◌+◌, ◌≤◌, Bool, true, false, cond, List, [], ◌∷◌, ◌++◌, map, Option, refl, sym, ◌∙◌, ap, subst, ◌⊎◌, inl, inr, Contains, None}
-use Rattle.std.proofs.lemmas.List.Elements.{Contains-append_left, Contains-append_right, Contains-append_cases}
+use Rattle.std.proofs.Common.{arith, ◌≡◌, ℕ, suc, ◌+◌, ◌≤◌, Bool, true, false, cond, List, [], ◌∷◌, ◌++◌, map, Option, refl, sym, ◌∙◌, ap, subst, Contains, None}
+use Rattle.std.proofs.lemmas.List.Elements.{Contains-append_left, Contains-append_right}
 use Rattle.mv_ir.specs.declared.tree.Tree.{Tree}
 use Rattle.mv_ir.specs.declared.stm.Callee.TheVariants as callee
 use Rattle.mv_ir.specs.declared.stm.Stm.{Stm}
@@ -12,7 +12,7 @@ use Rattle.mv_ir.specs.Measures.{joined, tree_reads, scalars_read, arrays_read, 
 use Rattle.mv_ir.specs.Live.{below}
 use Rattle.mv_ir.specs.Rolled.{set, divide, call, choose}
 use Rattle.mv_ir.specs.Shorts.{Shorts}
-use Rattle.mv_fold.proofs.Within.{Among, among_append, none_among, Amount, with, amount, amount_append, layer_amount, amount_one}
+use Rattle.mv_fold.proofs.Within.{Among, among_append, none_among, Amount, with, amount, amount_append, layer_amount, amount_one, among_both}
 use Rattle.mv_fold.proofs.FoldedWithin.{loop_amount, block_amount, chooser, if_amount}
 use Rattle.mv_fold.proofs.WellFormed.{facts, layer_facts, facts_one, Keep, keep_refl, keep_trans, Kept, kept_append, kept_nothing, if_kept, loop_kept, block_kept}
 use Rattle.mv_expand.specs.Straight.{AllShort, IsShort}
@@ -29,13 +29,6 @@ record Calm (reads : List ℕ) (xs : List Stm) : Type 0 where
   pub calls : calls xs ≡ 0
   pub arrays : Among (arrays_read xs) []
   pub asks : Kept [] xs
-
-among_both : (xs ys zs : List ℕ) → Among xs zs → Among ys zs → Among (xs ++ ys) zs
-among_both xs ys zs h k g c = by (Contains-append_cases xs ys g c)
-  where
-    by : Contains xs g ⊎ Contains ys g → Contains zs g
-    by (inl e) = h g e
-    by (inr e) = k g e
 
 module _ (reads : List ℕ) where
   calm_none : Calm reads []
@@ -126,7 +119,8 @@ adds_inside x y b b' e f h = adds_by (roll-Stm x ∷ []) (roll-Stm y ∷ []) (wi
 
 adds_choice : (t : Tree) (a a' b b' : List Stm) → Adds a a' → Adds b b' → Adds (choose t a b ∷ []) (choose t a' b' ∷ [])
 adds_choice t a a' b b' h k =
-    adds_by (choose t a b ∷ []) (choose t a' b' ∷ []) (with (chooser t) (with (amount a) (amount b))) (with (chooser t) (with (amount a') (amount b'))) (amount_one (stm.If t a b) ∙ if_amount t a b) (amount_one (stm.If t a' b') ∙ if_amount t a' b')
+    adds_by (choose t a b ∷ []) (choose t a' b' ∷ []) (with (chooser t) (with (amount a) (amount b)))
+    (with (chooser t) (with (amount a') (amount b'))) (amount_one (stm.If t a b) ∙ if_amount t a b) (amount_one (stm.If t a' b') ∙ if_amount t a' b')
     (more_with (chooser t) (chooser t) (with (amount a') (amount b')) (with (amount a) (amount b)) (more_refl (chooser t)) (more_with (amount a') (amount a) (amount b') (amount b) h k))
 
 module _ (r : Option ℕ) (f : ℕ) (args : List Tree) (placed : List Stm) (calm : Calm (joined (map tree_reads args)) placed) (shallow : deepest placed ≤ 4) where
@@ -138,7 +132,8 @@ module _ (r : Option ℕ) (f : ℕ) (args : List Tree) (placed : List Stm) (calm
     arrays = calm.arrays;
   })
   adds_place false =
-      adds_by (call r (callee.Direct f) args ∷ []) (call None callee.Expanded [] ∷ placed) (layer_amount (stm.Call r (callee.Direct f) args)) (with (layer_amount (stm.Call None callee.Expanded [])) (amount placed)) (amount_one (stm.Call r (callee.Direct f) args))
+      adds_by (call r (callee.Direct f) args ∷ []) (call None callee.Expanded [] ∷ placed) (layer_amount (stm.Call r (callee.Direct f) args))
+      (with (layer_amount (stm.Call None callee.Expanded [])) (amount placed)) (amount_one (stm.Call r (callee.Direct f) args))
       (amount_append (call None callee.Expanded [] ∷ []) placed ∙ ap (λ a. with a (amount placed)) (amount_one (stm.Call None callee.Expanded []))) (record {
         depth = λ e. omega (arith, shallow);
         reads = calm.scalars;

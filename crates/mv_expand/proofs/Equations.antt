@@ -1,16 +1,13 @@
 -- What the definitions of this crate give, at each variant.
 use Rattle.std.proofs.Common.{◌≡◌, ℕ, ◌+◌, Bool, true, false, eqb, List, [], ◌∷◌, Option, refl, sym, ◌∙◌, ap}
-use Rattle.std.specs.Prelude.{◌&&◌, nat_lt}
+use Rattle.std.specs.Prelude.{◌&&◌}
 use Rattle.mv_num.specs.Lists.{is_among}
 use Rattle.mv_num.specs.declared.kind.Kind.{Kind}
 use Rattle.mv_ast.specs.declared.program.Known.{Known}
 use Rattle.mv_ir.specs.declared.tree.Tree.{Tree}
 use Rattle.mv_ir.specs.declared.tree.Tree as tr
-use Rattle.mv_ir.specs.declared.tree.Tree.TheOpen.{Tree-F}
 use Rattle.mv_ir.specs.declared.tree.Tree.TheOpen as tree
 use Rattle.mv_ir.specs.declared.tree.Tree.TheVariants.{rolls-Number, rolls-Temp, rolls-Global, rolls-Function, rolls-Unary, rolls-Binary, rolls-Narrow}
-use Rattle.mv_ir.specs.declared.tree.Tree.TheViews.{roll-Tree}
-use Rattle.mv_ir.specs.declared.tree.Tree.TheFolds.{fold-roll-Tree, map-Tree}
 use Rattle.mv_ir.specs.declared.stm.Array.{Array}
 use Rattle.mv_ir.specs.declared.stm.Callee.{Callee}
 use Rattle.mv_ir.specs.declared.stm.Stm.{Stm}
@@ -20,9 +17,9 @@ use Rattle.mv_ir.specs.declared.stm.Stm.TheOpen as stm
 use Rattle.mv_ir.specs.declared.stm.Stm.TheVariants.{rolls-Set, rolls-SetGlobal, rolls-Divide, rolls-Check, rolls-Read, rolls-Write, rolls-Zero, rolls-If, rolls-Loop, rolls-Block, rolls-Break, rolls-Back, rolls-Call, rolls-Known, rolls-Return}
 use Rattle.mv_ir.specs.declared.stm.Stm.TheViews.{roll-Stm}
 use Rattle.mv_ir.specs.declared.stm.Stm.TheFolds.{fold-roll-Stm, map-Stm}
-use Rattle.mv_expand.specs.Straight.{layer_reads_only, reads_only, short_temps}
-use Rattle.mv_expand.specs.Placed.{layer_sets, stm_sets, stand_in, placed_node, placed_tree, result_into, placed_layer, placed_stm}
-use Rattle.mv_expand.specs.Walking.{is_small, layer_fits, fits}
+use Rattle.mv_expand.specs.Straight.{reads_only}
+use Rattle.mv_expand.specs.Placed.{layer_sets, stm_sets, stand_in, placed_tree, result_into, placed_layer, placed_stm}
+use Rattle.mv_expand.specs.Walking.{layer_fits, fits}
 use Rattle.mv_expand.proofs.Rolls.{reads_only_roll, stm_sets_roll, placed_tree_roll, placed_stm_roll}
 
 -- ---- what a tree reads

@@ -20,7 +20,7 @@ use Rattle.mv_ir.specs.Trees.{value, nodes_of_all}
 use Rattle.mv_ir.specs.Outcome.{State, Returned, More, Next, Run, Call, Calls, Bound, Meaning, spend, now, then_do, in_order, loop}
 use Rattle.mv_ir.specs.Meaning.{call_end, made_call, within, traps, meaning, first_temps, entry_state}
 use Rattle.mv_ir.specs.Measures.{callee_trees}
-use Rattle.mv_ir.specs.Live.{is, goes_next}
+use Rattle.mv_ir.specs.Live.{goes_next}
 use Rattle.mv_ir.specs.WellFormed.{IsWellFormed}
 use Rattle.mv_ir.specs.Rolled.{call, choose, repeat, enclosed}
 use Rattle.mv_ir.specs.Shorts.{Shorts, any_frame, AreShorts, KeepsBodyWith}
@@ -238,7 +238,9 @@ module _ (n : ℕ) (setting : Setting) (frame : Frame) where
         -- the test of the depth, and what stands behind it
         abbrev tested_first : Bool → Bound → Run
         tested_first z bound =
-            then_do (spend (8 + 3 * (0 + 0)) (cond z (within bound (λ calls. made_call None (before ys) (record { cost = 0; end = Returned None w })) (before ys)) (now (traps trap.call_too_deep (before ys))))) (in_order (map m (placed ++ rest')) bound)
+            then_do (spend (8 + 3 * (0 + 0))
+            (cond z (within bound (λ calls. made_call None (before ys) (record { cost = 0; end = Returned None w })) (before ys)) (now (traps trap.call_too_deep (before ys)))))
+            (in_order (map m (placed ++ rest')) bound)
 
         call_is : (bound : Bound) → in_order (map m (call r (callee.Direct f) args ∷ rest)) bound (before xs) ≡ called (ltb frame.depth trap.depth_limit) bound
         call_is bound = ap (λ (d : Meaning). then_do (d bound (before xs)) (in_order (map m rest) bound)) (meaning_roll setting frame (stm.Call r (callee.Direct f) args))
@@ -283,7 +285,8 @@ module _ (n : ℕ) (setting : Setting) (frame : Frame) where
         untested true [] are e = record { outcome = refl; cheaper = omega arith }
         untested true (calls ∷ lower) are e = let k = both_run calls lower (are, e) in record { outcome = k.outcome; cheaper = (let x = k.cheaper in omega (arith, x)) }
 
-        in_place : (tested : Bool) (bound : Bound) → Ready tested bound → RunRel places (in_order (map m (call r (callee.Direct f) args ∷ rest)) bound (before xs)) (in_order (map m (test_unless tested ++ (placed ++ rest'))) bound (before ys))
+        in_place : (tested : Bool) (bound : Bound) → Ready tested bound →
+            RunRel places (in_order (map m (call r (callee.Direct f) args ∷ rest)) bound (before xs)) (in_order (map m (test_unless tested ++ (placed ++ rest'))) bound (before ys))
         in_place false bound ready =
             subst (λ o. RunRel places o (in_order (map m (test_unless false ++ (placed ++ rest'))) bound (before ys))) (sym (call_is bound))
             (subst (λ o. RunRel places (called (ltb frame.depth trap.depth_limit) bound) o) (sym (test_is bound)) (untested (ltb frame.depth trap.depth_limit) bound ready.0 refl))

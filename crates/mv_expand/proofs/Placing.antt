@@ -1,5 +1,5 @@
 -- The statements that stand in place of a call set behind the caller's temporaries what the short body sets, and then the result.
-use Rattle.std.proofs.Common.{arith, ◌≡◌, ℕ, zero, suc, ◌+◌, ◌-◌, ◌*◌, ◌<◌, ◌≤◌, Bool, true, false, cond, eqb, ◌||◌, List, [], ◌∷◌, ◌++◌, map, length, Option, Some, None, refl, sym, ◌∙◌, ap, subst, ◌⊎◌, inl, inr}
+use Rattle.std.proofs.Common.{arith, ◌≡◌, ℕ, zero, suc, ◌+◌, ◌-◌, ◌*◌, ◌<◌, ◌≤◌, Bool, true, false, cond, eqb, List, [], ◌∷◌, ◌++◌, map, length, Option, Some, None, refl, sym, ◌∙◌, ap, subst, ◌⊎◌, inl, inr}
 use Rattle.std.specs.Prelude.{◌≢◌, slice_index, slice_set, slice_index_or}
 use Rattle.std.proofs.lemmas.List.{length-set, length-map, get_or-set_other, get_or_append_left}
 use Rattle.std.proofs.lemmas.Grind.{get_or-set_at}
@@ -20,7 +20,7 @@ use Rattle.mv_ir.specs.Trees as trees
 use Rattle.mv_ir.specs.Trees.{Value, tree_value, unary, binary, value, nodes}
 use Rattle.mv_ir.specs.Outcome.{State, Next, Run, Bound, spend, then_do}
 use Rattle.mv_ir.specs.Meaning.{code_meaning, first_items, first_temps}
-use Rattle.mv_ir.specs.Live.{is, below}
+use Rattle.mv_ir.specs.Live.{below}
 use Rattle.mv_ir.specs.Rolled.{number, temp, set, divide, return_with}
 use Rattle.mv_ir.proofs.Induction.{Each, TreeChildren, tree_ind}
 use Rattle.mv_ir.proofs.Rolls.{value_roll}
@@ -34,31 +34,12 @@ use Rattle.mv_expand.proofs.Rolls.{reads_only_roll, stm_sets_roll, placed_tree_r
 use Rattle.mv_expand.proofs.Costs.{cost_append, set_cost, divide_cost}
 use Rattle.mv_expand.proofs.Still.{plain, set_first, divide_first, given, number_value, short_value}
 use Rattle.mv_expand.proofs.Below.{ReadsBelow, WritesBelow}
+use Rattle.mv_expand.proofs.Straightness.{below_has}
 
 -- the temporaries where a result is put, if it is
 abbrev pub written : Option ℕ → ℕ → List ℕ → List ℕ
 written None v xs = xs
 written (Some t) v xs = slice_set xs t v
-
-in_longer : (u n : ℕ) (xs : List ℕ) → is_among u (xs ++ n ∷ []) ≡ true → (is_among u xs ≡ true) ⊎ (u ≡ n)
-in_longer u n [] e = by (or_cases (eqb u n) false e)
-  where
-    by : (eqb u n ≡ true) ⊎ (false ≡ true) → (false ≡ true) ⊎ (u ≡ n)
-    by (inl k) = inr (eqb-true u n k)
-    by (inr k) = inl k
-in_longer u n (x ∷ xs) e = by (eqb u x) e (in_longer u n xs)
-  where
-    by : (c : Bool) → (c || is_among u (xs ++ n ∷ [])) ≡ true → (is_among u (xs ++ n ∷ []) ≡ true → (is_among u xs ≡ true) ⊎ (u ≡ n)) → ((c || is_among u xs) ≡ true) ⊎ (u ≡ n)
-    by true k more = inl refl
-    by false k more = more k
-
-below_less : (n u : ℕ) → is_among u (below n) ≡ true → u < n
-below_less zero u e = from_falsity e
-below_less (suc n) u e = by (below_less n u) (in_longer u n (below n) e)
-  where
-    by : (is_among u (below n) ≡ true → u < n) → (is_among u (below n) ≡ true) ⊎ (u ≡ n) → u < suc n
-    by less (inl k) = let l = less k in omega (arith, l)
-    by less (inr k) = omega (arith, k)
 
 -- from a state of the caller's, with temporaries `first`
 module _ (setting : Setting) (frame : Frame) (bound : Bound) (base : ℕ) (arrays : List (List ℕ)) (world : World) (first : List ℕ) where
@@ -115,7 +96,8 @@ module _ (setting : Setting) (frame : Frame) (bound : Bound) (base : ℕ) (array
       let zs = slice_set ys t (trees.divide o n d) in
       record {
         temps = zs;
-        runs = divide_first setting frame bound t o x y [] (at ys) n d ex ey some ∙ run_same (spend (8 + 3 * (nodes x + nodes y)) (after 0 zs)) (after (straight_cost (divide t o x y ∷ [])) zs) refl (let c = divide_cost t o x y in omega (arith, c));
+        runs = divide_first setting frame bound t o x y [] (at ys) n d ex ey some ∙ run_same (spend (8 + 3 * (nodes x + nodes y)) (after 0 zs))
+            (after (straight_cost (divide t o x y ∷ [])) zs) refl (let c = divide_cost t o x y in omega (arith, c));
         holds = h;
       }
 
@@ -154,7 +136,8 @@ module _ (setting : Setting) (frame : Frame) (bound : Bound) (base : ℕ) (array
       abbrev IsStood : Tree → Type 0
       IsStood v = reads_only known v ≡ true → val (again v) ys ≡ plain v xs
 
-      here : (numbers : List ℕ) (reads : List (ℕ × ℕ)) (zs : List ℕ) (globals : List (List ℕ)) (x : Tree-F Tree) → value numbers reads (roll-Tree x) zs globals ≡ tree_value numbers reads (map-Tree Tree Value (value numbers reads) x) zs globals
+      here : (numbers : List ℕ) (reads : List (ℕ × ℕ)) (zs : List ℕ) (globals : List (List ℕ)) (x : Tree-F Tree) →
+          value numbers reads (roll-Tree x) zs globals ≡ tree_value numbers reads (map-Tree Tree Value (value numbers reads) x) zs globals
       here numbers reads zs globals x = ap (λ f. f zs globals) (value_roll numbers reads x)
 
       through : (x y : Tree-F Tree) → again (roll-Tree x) ≡ roll-Tree y →
@@ -304,7 +287,7 @@ module _ (setting : Setting) (frame : Frame) (bound : Bound) (base : ℕ) (array
           (arguments_go args 0 (let p = short.params in omega (arith, count, p)) low (λ k. let e : 0 + k ≡ k = omega arith in ap (slice_index values) e) first
           (record { room = wide; same = λ u l. refl }, λ u l e. absurd (omega (arith, l))))
           (λ zs g. body_goes b.temps (below b.params) b.code short.straight short.temps free (first_temps (λ i. 0) b.temps values) zs (temps_enough (λ i. 0) b.temps values)
-          (g.0, λ u e. starts zs g u (below_less b.params u e) (keeps u) refl))
+          (g.0, λ u e. starts zs g u (below_has b.params u e) (keeps u) refl))
         where
           starts : (zs : List ℕ) → HasGiven (0 + length args) zs → (u : ℕ) → u < b.params → (c : Bool) → keeps u ≡ c → held c u zs ≡ slice_index (first_temps (λ i. 0) b.temps values) u
           starts zs g u l c e =

@@ -1,10 +1,7 @@
 -- A short body in place of a call, statement by statement.
-use Rattle.std.proofs.Common.{◌≡◌, ℕ, zero, suc, ◌+◌, ◌*◌, ◌<◌, ◌≤◌, Bool, true, false, cond, not, List, [], ◌∷◌, ◌++◌, length, map, take, drop, get_or, Option, Some, None, ◌⊎◌, inl, inr, append_assoc, append-nil, arith, refl, sym, ◌∙◌, ap, subst}
-use Rattle.std.specs.Prelude.{◌||◌, max, min, slice_get, slice_index_or}
+use Rattle.std.proofs.Common.{◌≡◌, ℕ, zero, suc, ◌+◌, ◌<◌, ◌≤◌, Bool, true, false, cond, List, [], ◌∷◌, ◌++◌, length, take, drop, get_or, Option, None, append_assoc, append-nil, arith, refl, sym, ◌∙◌, ap, subst}
+use Rattle.std.specs.Prelude.{◌||◌, slice_get, slice_index_or}
 use Rattle.std.proofs.lemmas.List.{take_more, drop_more, length-take-le}
-use Rattle.mv_num.proofs.Booleans.{from_falsity}
-use Rattle.mv_ast.specs.Names.{any_of}
-use Rattle.mv_ast.specs.Flags.{is_set}
 use Rattle.mv_ir.specs.declared.tree.Tree.{Tree}
 use Rattle.mv_ir.specs.declared.stm.Stm.{Stm}
 use Rattle.mv_ir.specs.declared.stm.Stm as at
@@ -12,7 +9,7 @@ use Rattle.mv_ir.specs.declared.stm.Stm.TheOpen.{Stm-F}
 use Rattle.mv_ir.specs.declared.stm.Stm.TheOpen as stm
 use Rattle.mv_ir.specs.declared.stm.Stm.TheViews.{roll-Stm}
 use Rattle.mv_ir.specs.declared.stm.Stm.TheVariants.{rolls-Set, rolls-Divide, rolls-Return}
-use Rattle.mv_ir.specs.Measures.{joined, deepest, deepest_of, stm_trees, trees}
+use Rattle.mv_ir.specs.Measures.{deepest, deepest_of, stm_trees, trees}
 use Rattle.mv_ir.specs.Rolled.{number, set}
 use Rattle.mv_ir.specs.Trees.{depth}
 use Rattle.mv_ir.proofs.Induction.{StmChildren, stm_ind}
@@ -28,21 +25,6 @@ pub sets_next : (u : ℕ) (code : List Stm) (i : ℕ) (d : Stm) → i < length c
 sets_next u code i d lt = ap (sets_temp u) (drop_more code i d lt)
 
 -- ---- flags
-
-pub flags_pushed : (flags : List Bool) (b : Bool) (u : ℕ) → is_set (flags ++ b ∷ []) u ≡ true → (is_set flags u ≡ true) ⊎ ((u ≡ length flags) × (b ≡ true))
-flags_pushed [] b zero e = inr (refl, e)
-flags_pushed [] b (suc u) e = from_falsity e
-flags_pushed (f ∷ flags) b zero e = inl e
-flags_pushed (f ∷ flags) b (suc u) e = by (flags_pushed flags b u e)
-  where
-    by : (is_set flags u ≡ true) ⊎ ((u ≡ length flags) × (b ≡ true)) → (is_set (f ∷ flags) (suc u) ≡ true) ⊎ ((suc u ≡ length (f ∷ flags)) × (b ≡ true))
-    by (inl h) = inl h
-    by (inr h) = inr (omega (arith, h.0), h.1)
-
-pub flag_within : (flags : List Bool) (u : ℕ) → is_set flags u ≡ true → u < length flags
-flag_within [] u e = from_falsity e
-flag_within (f ∷ flags) zero e = omega arith
-flag_within (f ∷ flags) (suc u) e = omega (arith, flag_within flags u e)
 
 -- ---- depths
 

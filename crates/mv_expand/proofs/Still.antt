@@ -42,7 +42,9 @@ module _ (numbers : List ℕ) (bound : List (ℕ × ℕ)) (known xs : List ℕ) 
   here : (numbers : List ℕ) (bound : List (ℕ × ℕ)) (globals : List (List ℕ)) (x : Tree-F Tree) → value numbers bound (roll-Tree x) xs globals ≡ tree_value numbers bound (map-Tree Tree Value (value numbers bound) x) xs globals
   here numbers bound globals x = ap (λ f. f xs globals) (value_roll numbers bound x)
 
-  through : (x : Tree-F Tree) → tree_value numbers bound (map-Tree Tree Value (value numbers bound) x) xs globals ≡ tree_value [] [] (map-Tree Tree Value (value [] []) x) xs [] → value numbers bound (roll-Tree x) xs globals ≡ plain (roll-Tree x) xs
+  through : (x : Tree-F Tree) →
+      tree_value numbers bound (map-Tree Tree Value (value numbers bound) x) xs globals ≡ tree_value [] [] (map-Tree Tree Value (value [] []) x) xs [] →
+      value numbers bound (roll-Tree x) xs globals ≡ plain (roll-Tree x) xs
   through x e = here numbers bound globals x ∙ e ∙ sym (here [] [] [] x)
 
   plain_layer : (x : Tree-F Tree) → TreeChildren IsPlain x → layer_reads_only known (map-Tree Tree Bool (reads_only known) x) ≡ true → value numbers bound (roll-Tree x) xs globals ≡ plain (roll-Tree x) xs

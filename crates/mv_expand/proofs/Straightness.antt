@@ -1,8 +1,8 @@
 -- Straight code, over more temporaries and statement by statement.
-use Rattle.std.proofs.Common.{◌≡◌, ℕ, zero, suc, ◌+◌, ◌-◌, ◌<◌, ◌≤◌, Bool, true, false, List, [], ◌∷◌, ◌++◌, length, map, take, get_or, append_assoc, append-nil, arith, eqb, refl, sym, ◌∙◌, ap, subst}
+use Rattle.std.proofs.Common.{◌≡◌, ℕ, zero, suc, ◌+◌, ◌<◌, ◌≤◌, Bool, true, false, List, [], ◌∷◌, ◌++◌, length, map, take, get_or, append_assoc, append-nil, arith, eqb, refl, sym, ◌∙◌, ap, subst}
 use Rattle.std.specs.Prelude.{◌&&◌, ◌||◌, ◌≢◌, nat_eq, nat_lt}
 use Rattle.std.proofs.lemmas.List.{take_more, take_all}
-use Rattle.std.proofs.lemmas.Bool.{eqb-true, eqb-false}
+use Rattle.std.proofs.lemmas.Bool.{eqb-true, eqb-false, and_from, or_right}
 use Rattle.mv_num.specs.Lists.{is_among}
 use Rattle.mv_num.specs.declared.kind.Kind.{Kind}
 use Rattle.mv_num.proofs.Booleans.{and_left, and_right, from_falsity}
@@ -20,14 +20,12 @@ use Rattle.mv_ir.specs.Live.{below}
 use Rattle.mv_ir.specs.Rolled.{number, set, divide, return_with}
 use Rattle.mv_ir.specs.WellFormed.{all_true}
 use Rattle.mv_ir.proofs.Induction.{TreeChildren, tree_ind}
-use Rattle.mv_expand.specs.Straight.{IsShort, Straight, returns, sets, divides, reads_only, short_params, short_temps}
+use Rattle.mv_ir.proofs.Common.{lt_nat, nat_less}
+use Rattle.mv_fold.proofs.Reached.{eqb_self}
+use Rattle.mv_expand.specs.Straight.{IsShort, Straight, returns, sets, divides, reads_only, short_temps}
 use Rattle.mv_expand.specs.Walking.{LeadsOn, IsDivisor, is_small, fits}
 use Rattle.mv_expand.proofs.Rolls.{reads_only_roll}
 use Rattle.mv_expand.proofs.Equations.{fits_roll, only_temp, only_unary, only_binary, only_narrow}
-
-both : (a b : Bool) → a ≡ true → b ≡ true → (a && b) ≡ true
-both true b e h = h
-both false b e h = e
 
 -- ---- over more temporaries
 
@@ -45,7 +43,7 @@ module _ (known more : List ℕ) (h : Among known more) where
   wider (tree.Binary o a b) k e =
       let read = sym (reads_only_roll known (tree.Binary o a b)) ∙ e in
       reads_only_roll more (tree.Binary o a b) ∙
-      both (reads_only more a) (reads_only more b) (k.0 (and_left (reads_only known a) (reads_only known b) read)) (k.1 (and_right (reads_only known a) (reads_only known b) read))
+      and_from (reads_only more a) (reads_only more b) (k.0 (and_left (reads_only known a) (reads_only known b) read)) (k.1 (and_right (reads_only known a) (reads_only known b) read))
   wider (tree.Narrow j a) k e = reads_only_roll more (tree.Narrow j a) ∙ k (sym (reads_only_roll known (tree.Narrow j a)) ∙ e)
 
   pub reads_wider : (t : Tree) → reads_only known t ≡ true → reads_only more t ≡ true
@@ -110,29 +108,19 @@ one_of : (b x : Bool) {P : Type 0} → (b ≡ true → P) → (x ≡ true → P)
 one_of true x f g e = f refl
 one_of false x f g e = g e
 
-same_number : (u n : ℕ) → nat_eq u n ≡ true → u ≡ n
-same_number u n e = grind arith
-
 pub below_has : (n u : ℕ) → is_among u (below n) ≡ true → u < n
 below_has zero u e = from_falsity e
 below_has (suc n) u e =
-    one_of (nat_eq u n) (is_among u (below n)) (λ q. let same = same_number u n q in omega (arith, same)) (λ h. let lt = below_has n u h in omega (arith, lt))
+    one_of (nat_eq u n) (is_among u (below n)) (λ q. let same = eqb-true u n q in omega (arith, same)) (λ h. let lt = below_has n u h in omega (arith, lt))
     (among_pushed (below n) n u e)
 
 among_behind : (known : List ℕ) (t u : ℕ) → is_among u known ≡ true → is_among u (known ++ t ∷ []) ≡ true
 among_behind [] t u e = from_falsity e
 among_behind (k ∷ known) t u e = either_wider (nat_eq u k) (is_among u known) (is_among u (known ++ t ∷ [])) (among_behind known t u) e
 
-itself : (u : ℕ) → nat_eq u u ≡ true
-itself u = grind arith
-
-or_second : (b x : Bool) → x ≡ true → (b || x) ≡ true
-or_second true x e = refl
-or_second false x e = e
-
 among_last : (known : List ℕ) (t : ℕ) → is_among t (known ++ t ∷ []) ≡ true
-among_last [] t = ap (λ b. b || false) (itself t)
-among_last (k ∷ known) t = or_second (nat_eq t k) (is_among t (known ++ t ∷ [])) (among_last known t)
+among_last [] t = ap (λ b. b || false) (eqb_self t)
+among_last (k ∷ known) t = or_right (nat_eq t k) (is_among t (known ++ t ∷ [])) (among_last known t)
 
 pub has_below : (n u : ℕ) → u < n → is_among u (below n) ≡ true
 has_below zero u lt = absurd (omega (arith, lt))
@@ -144,31 +132,28 @@ has_below (suc n) u lt = by (eqb u n) (eqb-true u n) (eqb-false u n) (has_below 
 
 -- ---- short bodies, statement by statement
 
-less : (t n : ℕ) → t < n → nat_lt t n ≡ true
-less t n lt = grind arith
-
 small_wider : (known : List ℕ) → Among known (below short_temps) → (t : Tree) → reads_only known t ≡ true → is_small t ≡ true
 unfolding is_small
 small_wider known h t e = reads_wider known (below short_temps) h t e
 
 also_below : (known : List ℕ) (t : ℕ) → t < short_temps → Among known (below short_temps) → Among (t ∷ known) (below short_temps)
 also_below known t lt h u e =
-    one_of (nat_eq u t) (is_among u known) (λ q. subst (λ k. is_among k (below short_temps) ≡ true) (sym (same_number u t q)) (has_below short_temps t lt)) (h u) e
+    one_of (nat_eq u t) (is_among u known) (λ q. subst (λ k. is_among k (below short_temps) ≡ true) (sym (eqb-true u t q)) (has_below short_temps t lt)) (h u) e
 
 module _ (temps : ℕ) (few : temps ≤ short_temps) where
   straight_fits : (known : List ℕ) (code : List Stm) → Straight temps known code → Among known (below short_temps) → all_true (map fits code) ≡ true
-  straight_fits known code (returns k v e) h = both (fits (return_with v)) true (fits_roll (stm.Return v) ∙ small_wider k h v e) refl
+  straight_fits known code (returns k v e) h = and_from (fits (return_with v)) true (fits_roll (stm.Return v) ∙ small_wider k h v e) refl
   straight_fits known code (sets k t v rest lt e s) h =
       let small : t < short_temps = omega (arith, lt, few) in
-      both (fits (set t v)) (all_true (map fits rest))
-      (fits_roll (stm.Set t v) ∙ both (nat_lt t short_temps) (is_small v) (less t short_temps small) (small_wider k h v e))
+      and_from (fits (set t v)) (all_true (map fits rest))
+      (fits_roll (stm.Set t v) ∙ and_from (nat_lt t short_temps) (is_small v) (lt_nat t short_temps small) (small_wider k h v e))
       (straight_fits (t ∷ k) rest s (also_below k t small h))
   straight_fits known code (divides k t o a n rest lt ne e s) h =
       let small : t < short_temps = omega (arith, lt, few) in
-      both (fits (divide t o a (number n))) (all_true (map fits rest))
+      and_from (fits (divide t o a (number n))) (all_true (map fits rest))
       (fits_roll (stm.Divide t o a (number n)) ∙
-      both (nat_lt t short_temps) (is_small a && is_small (number n)) (less t short_temps small)
-      (both (is_small a) (is_small (number n)) (small_wider k h a e) (small_wider [] (λ u q. from_falsity q) (number n) (reads_only_roll [] (tree.Number n)))))
+      and_from (nat_lt t short_temps) (is_small a && is_small (number n)) (lt_nat t short_temps small)
+      (and_from (is_small a) (is_small (number n)) (small_wider k h a e) (small_wider [] (λ u q. from_falsity q) (number n) (reads_only_roll [] (tree.Number n)))))
       (straight_fits (t ∷ k) rest s (also_below k t small h))
 
 pub short_fits : (b : Body) → IsShort b → all_true (map fits b.code) ≡ true
@@ -198,15 +183,12 @@ pub small_narrow : (k : Kind) (a : Tree) → is_small (tr.Narrow k a) ≡ true �
 unfolding is_small
 small_narrow k a e = sym (only_narrow (below short_temps) k a) ∙ e
 
-smaller : (t n : ℕ) → nat_lt t n ≡ true → t < n
-smaller t n e = grind arith
-
 module _ (t : ℕ) (v : Tree) (e : fits (at.Set t v) ≡ true) where
   set_fits : (nat_lt t short_temps && is_small v) ≡ true
   set_fits = sym (fits_roll (stm.Set t v)) ∙ ap fits (rolls-Set t v) ∙ e
 
   pub set_temp : t < short_temps
-  set_temp = smaller t short_temps (and_left (nat_lt t short_temps) (is_small v) set_fits)
+  set_temp = nat_less t short_temps (and_left (nat_lt t short_temps) (is_small v) set_fits)
 
   pub set_small : is_small v ≡ true
   set_small = and_right (nat_lt t short_temps) (is_small v) set_fits
@@ -216,7 +198,7 @@ module _ (t o : ℕ) (a b : Tree) (e : fits (at.Divide t o a b) ≡ true) where
   divide_fits = sym (fits_roll (stm.Divide t o a b)) ∙ ap fits (rolls-Divide t o a b) ∙ e
 
   pub divide_temp : t < short_temps
-  divide_temp = smaller t short_temps (and_left (nat_lt t short_temps) (is_small a && is_small b) divide_fits)
+  divide_temp = nat_less t short_temps (and_left (nat_lt t short_temps) (is_small a && is_small b) divide_fits)
 
   pub divide_first : is_small a ≡ true
   divide_first = and_left (is_small a) (is_small b) (and_right (nat_lt t short_temps) (is_small a && is_small b) divide_fits)

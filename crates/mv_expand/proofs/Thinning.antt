@@ -1,5 +1,5 @@
 -- With short bodies in place of calls nothing is live that wasn't live before, and what is written besides stands behind the temporaries of the caller.
-use Rattle.std.proofs.Common.{arith, ◌≡◌, ℕ, zero, suc, ◌+◌, ◌<◌, ◌≤◌, Bool, true, false, cond, not, eqb, ◌&&◌, ◌||◌, List, [], ◌∷◌, ◌++◌, length, map, Option, Some, None, refl, sym, ◌∙◌, ap, subst, ◌⊎◌, inl, inr, nat_eq}
+use Rattle.std.proofs.Common.{arith, ◌≡◌, ℕ, suc, ◌+◌, ◌<◌, ◌≤◌, Bool, true, false, cond, not, eqb, ◌&&◌, ◌||◌, List, [], ◌∷◌, ◌++◌, length, map, Option, Some, None, refl, sym, ◌∙◌, ap, subst, ◌⊎◌, inl, inr, nat_eq}
 use Rattle.std.proofs.lemmas.Bool.{or_left, or_right, eqb-true, eqb-false, cases_eq, cases_lt}
 use Rattle.std.proofs.lemmas.Map.Views.{exact_unsigned_eq}
 use Rattle.mv_num.specs.Lists.{is_among}
@@ -13,7 +13,7 @@ use Rattle.mv_ir.specs.declared.stm.Stm.TheOpen as stm
 use Rattle.mv_ir.specs.declared.stm.Stm.TheViews.{roll-Stm}
 use Rattle.mv_ir.specs.declared.body.Body.{Body}
 use Rattle.mv_ir.specs.Live.{reads_temp, any_reads, is, Around, Flow, with_after, around_loop, live_in_order, marks_in_order, live_at_loop, flow, nowhere, live_at_start, all_marks, IsWhole, HasTemps, below}
-use Rattle.mv_ir.specs.Rolled.{set, divide, call, choose, repeat, enclosed}
+use Rattle.mv_ir.specs.Rolled.{set, divide, choose, repeat, enclosed}
 use Rattle.mv_ir.specs.Shorts.{Shorts}
 use Rattle.mv_ir.proofs.Rolls.{flow_roll, flow_of_layer}
 use Rattle.mv_fold.proofs.Marks.{any_marked, marked_any, any_cases, any_both}
@@ -24,32 +24,9 @@ use Rattle.mv_expand.specs.Placed.{given_from, placed_code, IsPlaced}
 use Rattle.mv_expand.specs.Expanding.{test_unless, Expands}
 use Rattle.mv_expand.proofs.Structure.{IsClosed, expanded_is}
 use Rattle.mv_expand.proofs.Laid.{StandsFor, Stands, Laid, no_result, result_to, put, quotient, laid}
+use Rattle.mv_expand.proofs.Straightness.{below_has}
 
 -- ---- what is known
-
-among_below : (n u : ℕ) → is_among u (below n) ≡ true → u < n
-among_below zero u e = from_falsity e
-among_below (suc n) u e = by (among_below n u) (among_append u (below n) n e)
-  where
-    among_append : (u : ℕ) (ks : List ℕ) (n : ℕ) → is_among u (ks ++ n ∷ []) ≡ true → (is_among u ks ≡ true) ⊎ (u ≡ n)
-    among_append u [] n e = head (or_cases (nat_eq u n) false e)
-      where
-        head : (nat_eq u n ≡ true) ⊎ (false ≡ true) → (false ≡ true) ⊎ (u ≡ n)
-        head (inl h) = inr (exact_unsigned_eq u n h)
-        head (inr h) = inl h
-    among_append u (k ∷ ks) n e = tail (among_append u ks n) (or_cases (nat_eq u k) (is_among u (ks ++ n ∷ [])) e)
-      where
-        tail : (is_among u (ks ++ n ∷ []) ≡ true → (is_among u ks ≡ true) ⊎ (u ≡ n)) → (nat_eq u k ≡ true) ⊎ (is_among u (ks ++ n ∷ []) ≡ true) → ((nat_eq u k || is_among u ks) ≡ true) ⊎ (u ≡ n)
-        tail h (inl q) = inl (or_left (nat_eq u k) (is_among u ks) q)
-        tail h (inr q) = further (h q)
-          where
-            further : (is_among u ks ≡ true) ⊎ (u ≡ n) → ((nat_eq u k || is_among u ks) ≡ true) ⊎ (u ≡ n)
-            further (inl r) = inl (or_right (nat_eq u k) (is_among u ks) r)
-            further (inr r) = inr r
-
-    by : (is_among u (below n) ≡ true → u < n) → (is_among u (below n) ≡ true) ⊎ (u ≡ n) → u < suc n
-    by h (inl q) = omega (arith, h q)
-    by h (inr q) = omega (arith, q)
 
 -- ---- as one temporary sees code
 
@@ -305,7 +282,7 @@ module _ (t base : ℕ) (r : Option ℕ) (args : List Tree) (b : Body) (placed :
   is_laid = laid base k.keeps args b.temps short.temps r (below b.params) b.code short.straight
 
   few : (u : ℕ) → is_among u (below b.params) ≡ true → u < short_temps
-  few u e = omega (arith, among_below b.params u e, short.params)
+  few u e = omega (arith, below_has b.params u e, short.params)
 
   code_live : live_in t code around ≡ true → StandsFor base k.keeps args (below b.params) t ⊎ Called t base k.keeps args r around
   code_live = laid_live t base k.keeps args r around r (below b.params) code is_laid refl
@@ -314,7 +291,7 @@ module _ (t base : ℕ) (r : Option ℕ) (args : List Tree) (b : Body) (placed :
   placed_live e = by (given_live t base k.keeps args 0 args (with_after around (live_in t code around)) (sym (lives_append t given code around) ∙ ap (λ l. live_in t l around) (sym k.is) ∙ e))
     where
       unset : Unset t base k.keeps args 0 (length args) → StandsFor base k.keeps args (below b.params) t ⊎ Called t base k.keeps args r around → Called t base k.keeps args r around
-      unset h (inl s) = absurd (h s.temp (omega arith) (omega (arith, among_below b.params s.temp s.among, k.count)) s.moved s.is)
+      unset h (inl s) = absurd (h s.temp (omega arith) (omega (arith, below_has b.params s.temp s.among, k.count)) s.moved s.is)
       unset h (inr c) = c
 
       by : GivenLive t base k.keeps args 0 args (with_after around (live_in t code around)) → Called t base k.keeps args r around
@@ -371,7 +348,8 @@ module _ (t base : ℕ) where
       (any_both (marks_in_order (map (flow t) a) r) (marks_in_order (map (flow t) b) r) (marks_in_order (map (flow t) a') r') (marks_in_order (map (flow t) b') r') (h.marks far r r' f) (k.marks far r r' f)))
     where
       start : (r r' : Around) → FitsAround every t r r' → (reads_temp t c || (live_in t a' r' || live_in t b' r')) ≡ true → (reads_temp t c || (live_in t a r || live_in t b r)) ≡ true
-      start r r' f = or_both (reads_temp t c) (live_in t a r || live_in t b r) (reads_temp t c) (live_in t a' r' || live_in t b' r') (λ e. e) (or_both (live_in t a r) (live_in t b r) (live_in t a' r') (live_in t b' r') (h.live r r' f) (k.live r r' f))
+      start r r' f = or_both (reads_temp t c) (live_in t a r || live_in t b r) (reads_temp t c) (live_in t a' r' || live_in t b' r') (λ e. e)
+          (or_both (live_in t a r) (live_in t b r) (live_in t a' r') (live_in t b' r') (h.live r r' f) (k.live r r' f))
 
   thin_loop : (b b' : List Stm) → Thin b b' → Thin (repeat b ∷ []) (repeat b' ∷ [])
   thin_loop b b' h = thin_layer (stm.Loop b) (stm.Loop b') start (λ far r r' f. or_both _ _ _ _ (start r r' f) (h.marks far _ _ (fits_loop every t r r' _ _ f (λ v. (start r r' f v, refl)))))

@@ -1,16 +1,13 @@
 -- How the walk over code goes on, and what it gives.
-use Rattle.std.proofs.Common.{◌≡◌, ℕ, ◌+◌, ◌<◌, Bool, true, false, List, [], ◌∷◌, ◌++◌, length, take, get_or, Option, Some, None, append_assoc, append-nil, arith, refl, sym, ◌∙◌, ap, subst}
-use Rattle.std.specs.Prelude.{slice_get}
-use Rattle.std.proofs.lemmas.List.{take_more, take_all}
+use Rattle.std.proofs.Common.{◌≡◌, ℕ, ◌+◌, ◌<◌, Bool, true, false, List, [], ◌∷◌, ◌++◌, length, take, get_or, None, append_assoc, append-nil, refl, sym, ◌∙◌, ap, subst}
+use Rattle.std.proofs.lemmas.List.{take_more}
 use Rattle.mv_ir.specs.declared.tree.Tree.{Tree}
 use Rattle.mv_ir.specs.declared.stm.Callee.TheVariants as callee
 use Rattle.mv_ir.specs.declared.stm.Stm.{Stm}
 use Rattle.mv_ir.specs.declared.stm.Stm as at
 use Rattle.mv_ir.specs.declared.stm.Stm.TheVariants.{rolls-If, rolls-Loop, rolls-Block, rolls-Call}
-use Rattle.mv_ir.specs.declared.body.Body.{Body}
 use Rattle.mv_ir.specs.Rolled.{call, choose, repeat, enclosed}
 use Rattle.mv_ir.specs.Shorts.{Shorts}
-use Rattle.mv_expand.specs.Placed.{IsPlaced}
 use Rattle.mv_expand.specs.Expanding.{Expands, test_unless, none, same, branch, loop, enclose, place}
 use Rattle.mv_expand.specs.Walking.{IsPlacedCall, Becomes, IsNext}
 
@@ -38,10 +35,6 @@ module _ (shorts : Shorts) (base : ℕ) where
       (subst (λ y. Expands shorts base tested (enclosed b ∷ rest) (y ∷ rest')) (rolls-Block b') (enclose tested b b' rest rest' hb h))
 
   -- ---- the next statement
-
-  pub next_stays : (tested : Bool) (s y : Stm) (before made : List Stm) → Becomes shorts base tested (s ∷ []) (y ∷ []) tested → made ≡ before ++ y ∷ [] →
-      IsNext shorts base tested s before made tested
-  next_stays tested s y before made h e = record { part = y ∷ []; is = e; becomes = h }
 
   pub next_placed : (tested : Bool) (s : Stm) (before tests placed made : List Stm) → IsPlacedCall shorts base s placed → tests ≡ before ++ test_unless tested →
       made ≡ tests ++ placed → IsNext shorts base tested s before made true

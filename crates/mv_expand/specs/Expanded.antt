@@ -1,7 +1,7 @@
 -- What a body with short bodies in place of calls is.
-use Rattle.std.specs.Prelude.{ℕ, ◌≡◌, ◌+◌, ◌≤◌, ◌^◌, false, Contains}
+use Rattle.std.specs.Prelude.{ℕ, ◌≡◌, ◌+◌, ◌≤◌, false, Contains}
 use Rattle.mv_ir.specs.declared.body.Body.{Body}
-use Rattle.mv_ir.specs.Measures.{scalars_read, arrays_read, statements, tree_nodes, calls, deepest}
+use Rattle.mv_ir.specs.Measures.{scalars_read, arrays_read, calls, deepest}
 use Rattle.mv_ir.specs.Live.{IsWhole, HasTemps}
 use Rattle.mv_ir.specs.WellFormed.{IsWellFormed}
 use Rattle.mv_ir.specs.Shorts.{Shorts, KeepsBodyWith}

@@ -15,7 +15,9 @@ kept log more count k end le h = let within = h.within in record {
   last = λ q e. ap (λ (o : Older). o.index) (get_or_append_left log more _ q (omega (arith, e, le, within))) ∙ h.last q e;
 }
 
-module _ (ends : List ℕ) (log : List Older) (e : Older) (old : IsLinked ends log) (lt : e.index < length ends) (before : e.before ≡ slice_index ends e.index) (number : e.number ≡ length (olds e.index log) + 1) (farther : LeadsTo log (length log) e.index e.farther) where
+module _ (ends : List ℕ) (log : List Older) (e : Older) (old : IsLinked ends log) (lt : e.index < length ends)
+    (before : e.before ≡ slice_index ends e.index) (number : e.number ≡ length (olds e.index log) + 1)
+    (farther : LeadsTo log (length log) e.index e.farther) where
   abbrev after : List Older
   after = log ++ e ∷ []
 

@@ -212,7 +212,25 @@ taking_return t v x e = ap (taking t v) (sym (rolls-Return x)) ∙ taking_roll t
 pub taking_other_return : (t : ℕ) (v : Tree) (x : Tree) → is_temp t x ≡ false → taking t v (at.Return x) ≡ None
 taking_other_return t v x e = ap (taking t v) (sym (rolls-Return x)) ∙ taking_roll t v (stm.Return x) ∙ ap (λ c. where_true c (stm.Return v)) e
 
-pub ruleset takings = (taking_set, taking_setglobal, taking_other_setglobal, taking_divide, taking_check, taking_read, taking_write, taking_zero, taking_if, taking_loop, taking_block, taking_break, taking_back, taking_call, taking_known, taking_return, taking_other_return)
+pub ruleset takings = (
+  taking_set,
+  taking_setglobal,
+  taking_other_setglobal,
+  taking_divide,
+  taking_check,
+  taking_read,
+  taking_write,
+  taking_zero,
+  taking_if,
+  taking_loop,
+  taking_block,
+  taking_break,
+  taking_back,
+  taking_call,
+  taking_known,
+  taking_return,
+  taking_other_return,
+)
 
 pub one_set : (temps t : ℕ) (v : Tree) (s : Stm) → t < temps → as_one temps (at.Set t v) s ≡ taking t v s
 one_set temps t v s lt = ap (λ r. as_one temps r s) (sym (rolls-Set t v)) ∙ as_one_roll temps (stm.Set t v) s ∙ ap (λ c. cond c (taking t v s) None) (lt-ltb t temps lt)

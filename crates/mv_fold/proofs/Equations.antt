@@ -20,7 +20,8 @@ use Rattle.mv_num.specs.Words.{as_word}
 use Rattle.mv_ir.specs.Trees.{unary, binary, divide}
 use Rattle.mv_fold.specs.Simple.{constant, one_or, two_or, simple_tree, simple_callee, simple_stm, simple_code, jumps, ended, division, choice}
 use Rattle.mv_fold.specs.Opened.{blocked, looped}
-use Rattle.mv_fold.proofs.SimpleKept.{not_zero, constant_roll, jumps_roll, simple_tree_roll, simple_stm_roll}
+use Rattle.mv_fold.proofs.Levels.{not_zero}
+use Rattle.mv_fold.proofs.SimpleKept.{constant_roll, jumps_roll, simple_tree_roll, simple_stm_roll}
 use Rattle.mv_fold.proofs.Ends.{add_one}
 
 pub constant_number : (n : ℕ) → constant (tr.Number n) ≡ Some n
@@ -266,7 +267,23 @@ pub ruleset simple_trees = (simple_number, simple_temp, simple_global, simple_fu
 
 pub ruleset jumping = (jumps_set, jumps_setglobal, jumps_divide, jumps_check, jumps_read, jumps_write, jumps_zero, jumps_if, jumps_loop, jumps_block, jumps_break, jumps_back, jumps_call, jumps_known, jumps_return)
 
-pub ruleset simple_stms = (simple_set_stm, simple_setglobal_stm, simple_divide_stm, simple_check_stm, simple_read_stm, simple_write_stm, simple_zero_stm, simple_if_stm, simple_loop_stm, simple_block_stm, simple_break_stm, simple_back_stm, simple_call_stm, simple_known_stm, simple_return_stm)
+pub ruleset simple_stms = (
+  simple_set_stm,
+  simple_setglobal_stm,
+  simple_divide_stm,
+  simple_check_stm,
+  simple_read_stm,
+  simple_write_stm,
+  simple_zero_stm,
+  simple_if_stm,
+  simple_loop_stm,
+  simple_block_stm,
+  simple_break_stm,
+  simple_back_stm,
+  simple_call_stm,
+  simple_known_stm,
+  simple_return_stm,
+)
 
 pub ruleset divided = (division_left, division_right, division_zero, division_number)
 

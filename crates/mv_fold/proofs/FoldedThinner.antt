@@ -139,11 +139,17 @@ stopped x xs h =
       m ++ n,
       subst (λ f. Thins every (m ++ n) f (code_flow every (roll-Stm x ∷ []))) (sym (flow_append every (roll-Stm x ∷ []) xs)) (record {
         live = λ t r r' e v. ((all t r (live_in_order (map (flow t) xs) r)).0 ∙ (k.live t r r' e v).0, refl);
-        marks = λ t r r' e. subst (Covers (m ++ n) _) (append-nil ((code_flow every (roll-Stm x ∷ []) t).marks r')) (covers_append m _ ((code_flow every (roll-Stm x ∷ []) t).marks r') n _ [] (subst (λ l. Covers m l ((code_flow every (roll-Stm x ∷ []) t).marks r')) (sym (all t r (live_in_order (map (flow t) xs) r)).1) (k.marks t r r' e)) (g t r));
+        marks =
+            λ t r r' e. subst (Covers (m ++ n) _) (append-nil ((code_flow every (roll-Stm x ∷ []) t).marks r'))
+            (covers_append m _ ((code_flow every (roll-Stm x ∷ []) t).marks r') n _ []
+            (subst (λ l. Covers m l ((code_flow every (roll-Stm x ∷ []) t).marks r')) (sym (all t r (live_in_order (map (flow t) xs) r)).1)
+            (k.marks t r r' e)) (g t r));
       }),
     )
   where
-    all : (t : ℕ) (r : Around) (b : Bool) → ((code_flow every (roll-Stm x ∷ []) t).live (with_after r b) ≡ (code_flow every (roll-Stm x ∷ []) t).live r) × ((code_flow every (roll-Stm x ∷ []) t).marks (with_after r b) ≡ (code_flow every (roll-Stm x ∷ []) t).marks r)
+    all : (t : ℕ) (r : Around) (b : Bool) →
+        ((code_flow every (roll-Stm x ∷ []) t).live (with_after r b) ≡ (code_flow every (roll-Stm x ∷ []) t).live r) ×
+        ((code_flow every (roll-Stm x ∷ []) t).marks (with_after r b) ≡ (code_flow every (roll-Stm x ∷ []) t).marks r)
     all = subst (λ (f : ℕ → Flow). (t : ℕ) (r : Around) (b : Bool) → ((f t).live (with_after r b) ≡ (f t).live r) × ((f t).marks (with_after r b) ≡ (f t).marks r)) (sym (flow_one every x)) h
 
 jump_thinner : (s : Stm) (xs : List Stm) → jumps s ≡ true → Thinner (s ∷ xs) (s ∷ [])
@@ -203,7 +209,9 @@ narrow_reads k a None h = node_reads (tree.Narrow k a) (tree.Narrow k (simple_tr
 narrow_reads k a (Some n) h = number_reads (word.narrow k n) (roll-Tree (tree.Narrow k a))
 
 binary_same : (o : ℕ) (a b : Tree) → IsTree a → IsTree b → NoMoreRead (roll-Tree (tree.Binary o a b)) (roll-Tree (tree.Binary o (simple_tree a) (simple_tree b)))
-binary_same o a b h k = node_reads (tree.Binary o a b) (tree.Binary o (simple_tree a) (simple_tree b)) (λ t e. or_both (reads_temp t a) (reads_temp t b) (reads_temp t (simple_tree a)) (reads_temp t (simple_tree b)) (λ v. (h t v).0) (λ v. (k t v).0) e)
+binary_same o a b h k =
+    node_reads (tree.Binary o a b) (tree.Binary o (simple_tree a) (simple_tree b))
+    (λ t e. or_both (reads_temp t a) (reads_temp t b) (reads_temp t (simple_tree a)) (reads_temp t (simple_tree b)) (λ v. (h t v).0) (λ v. (k t v).0) e)
 
 binary_reads : (o : ℕ) (a b : Tree) (c d : Option ℕ) → IsTree a → IsTree b → NoMoreRead (roll-Tree (tree.Binary o a b)) (two_or c d (binary o) (roll-Tree (tree.Binary o (simple_tree a) (simple_tree b))))
 binary_reads o a b (Some n) (Some m) h k = number_reads (binary o n m) (roll-Tree (tree.Binary o a b))
@@ -320,8 +328,12 @@ thin_layer (stm.Read t a i) h = thin_one (stm.Read t a i) (stm.Read t a (simple_
 thin_layer (stm.Write a i v) h = thin_one (stm.Write a i v) (stm.Write a (simple_tree i) (simple_tree v)) (next_thins (i ∷ v ∷ []) (simple_tree i ∷ simple_tree v ∷ []) None (two_less i v))
 thin_layer (stm.Zero l) h = same (roll-Stm (stm.Zero l))
 thin_layer (stm.If x a b) h = choice_thin (constant (simple_tree x)) x a b (code_thin a h.0) (code_thin b h.1)
-thin_layer (stm.Loop b) h = thinner_trans every (roll-Stm (stm.Loop b) ∷ []) (roll-Stm (stm.Loop (simple_code b)) ∷ []) (looped (simple_code b)) (loop_thins every b (simple_code b) (code_thin b h)) (looped_is Thinner open_thin (simple_code b))
-thin_layer (stm.Block b) h = thinner_trans every (roll-Stm (stm.Block b) ∷ []) (roll-Stm (stm.Block (simple_code b)) ∷ []) (blocked (simple_code b)) (block_thins every b (simple_code b) (code_thin b h)) (blocked_is Thinner open_thin (simple_code b))
+thin_layer (stm.Loop b) h =
+    thinner_trans every (roll-Stm (stm.Loop b) ∷ []) (roll-Stm (stm.Loop (simple_code b)) ∷ []) (looped (simple_code b))
+    (loop_thins every b (simple_code b) (code_thin b h)) (looped_is Thinner open_thin (simple_code b))
+thin_layer (stm.Block b) h =
+    thinner_trans every (roll-Stm (stm.Block b) ∷ []) (roll-Stm (stm.Block (simple_code b)) ∷ []) (blocked (simple_code b))
+    (block_thins every b (simple_code b) (code_thin b h)) (blocked_is Thinner open_thin (simple_code b))
 thin_layer (stm.Break n) h = same (roll-Stm (stm.Break n))
 thin_layer (stm.Back n) h = same (roll-Stm (stm.Back n))
 thin_layer (stm.Call r f args) h = thin_one (stm.Call r f args) (stm.Call r (simple_callee f) (map simple_tree args)) (next_thins (callee_trees f ++ args) (callee_trees (simple_callee f) ++ map simple_tree args) r (call_less f args))
@@ -404,7 +416,9 @@ module _ (needed : ℕ → Bool) where
   left_layer (stm.Zero l) h a = kept (stm.Zero l) (next [] None (λ t e. from_falsity e))
   left_layer (stm.If x y z) h a =
       let inner = right needed (tree_uses None x) (code_uses y ++ code_uses z) a in
-      if_thins needed x x y (needed_code needed y) z (needed_code needed z) (λ t e. (e, for_body needed x (left needed (tree_uses None x) (code_uses y ++ code_uses z) a) t e)) (kids_left y h.0 (left needed (code_uses y) (code_uses z) inner)) (kids_left z h.1 (right needed (code_uses y) (code_uses z) inner))
+      if_thins needed x x y (needed_code needed y) z (needed_code needed z)
+      (λ t e. (e, for_body needed x (left needed (tree_uses None x) (code_uses y ++ code_uses z) a) t e))
+      (kids_left y h.0 (left needed (code_uses y) (code_uses z) inner)) (kids_left z h.1 (right needed (code_uses y) (code_uses z) inner))
   left_layer (stm.Loop b) h a = loop_thins needed b (needed_code needed b) (kids_left b h a)
   left_layer (stm.Block b) h a = block_thins needed b (needed_code needed b) (kids_left b h a)
   left_layer (stm.Break n) h a = kept (stm.Break n) (plain_thins needed [] [] None (λ r. r.leaves n) (λ t e. from_falsity e) (on_leaves needed n))

@@ -1,5 +1,5 @@
 -- Folding makes no count greater, and reads no other globals.
-use Rattle.std.proofs.Common.{arith, ◌≡◌, ℕ, zero, suc, ◌+◌, ◌≤◌, max, Bool, true, false, cond, List, [], ◌∷◌, ◌++◌, map, Option, Some, None, sym, subst}
+use Rattle.std.proofs.Common.{◌∙◌, arith, ◌≡◌, ℕ, zero, suc, ◌+◌, ◌≤◌, max, Bool, true, false, cond, List, [], ◌∷◌, ◌++◌, map, Option, Some, None, sym, subst}
 use Rattle.mv_num.specs.Words as word
 use Rattle.mv_ir.specs.declared.tree.Tree.{Tree}
 use Rattle.mv_ir.specs.declared.tree.Tree.TheOpen.{Tree-F}
@@ -18,7 +18,7 @@ use Rattle.mv_ir.specs.Measures.{joined, callee_trees, layer_trees, stm_trees, t
 use Rattle.mv_ir.proofs.Induction.{Each, TreeChildren, tree_ind, StmChildren}
 use Rattle.mv_ir.proofs.Rolls.{nodes_roll, depth_roll, reads_roll}
 use Rattle.mv_ir.proofs.Joining.{depth_positive}
-use Rattle.mv_ir.specs.Rolled.{number, temp}
+use Rattle.mv_ir.specs.Rolled.{number, temp, choose}
 use Rattle.mv_fold.specs.Simple.{constant, one_or, two_or, simple_node, simple_tree, jumps, ended, simple_callee, alone, division, choice, simple_layer, simple_stm, simple_code}
 use Rattle.mv_fold.specs.Needed.{needed_layer, needed_stm, needed_code}
 use Rattle.mv_fold.specs.Shortened.{shortened}
@@ -28,7 +28,7 @@ use Rattle.mv_fold.proofs.Opening.{Opens, blocked_is, looped_is}
 use Rattle.mv_fold.proofs.SimpleKept.{nodes_some, simple_tree_roll, each_simple}
 use Rattle.mv_fold.proofs.NeededEquations.{each_left}
 use Rattle.mv_fold.proofs.Shortening.{shortened_is}
-use Rattle.mv_fold.proofs.Within.{Among, among_append, none_among, Amount, Less, less_refl, less_trans, with, less_with, less_nothing, less_left, less_right, of_trees, of_trees_append, amount, amount_append, layer_amount, Within, within_append, within_one, within_many, no_greater}
+use Rattle.mv_fold.proofs.Within.{Among, among_append, none_among, Amount, Less, less_refl, less_trans, with, less_with, less_nothing, less_left, less_right, of_trees, of_trees_append, amount, amount_append, layer_amount, amount_one, bare, Within, within_append, within_one, within_many, no_greater}
 
 -- ---- trees
 
@@ -65,11 +65,15 @@ abbrev pub TreeLess : Tree → Type 0
 TreeLess t = Less (of_tree (simple_tree t)) (of_tree t)
 
 unary_less : (o : ℕ) (a : Tree) (c : Option ℕ) → TreeLess a → Less (of_tree (one_or c (unary o) (roll-Tree (tree.Unary o (simple_tree a))))) (of_tree (roll-Tree (tree.Unary o a)))
-unary_less o a None h = nodes_less (tree.Unary o a) (tree.Unary o (simple_tree a)) (record { nodes = omega (arith, h.nodes); depth = omega (arith, h.depth); reads = h.reads; statements = omega arith; calls = omega arith; arrays = none_among [] })
+unary_less o a None h =
+    nodes_less (tree.Unary o a) (tree.Unary o (simple_tree a))
+    (record { nodes = omega (arith, h.nodes); depth = omega (arith, h.depth); reads = h.reads; statements = omega arith; calls = omega arith; arrays = none_among [] })
 unary_less o a (Some n) h = number_less (unary o n) (roll-Tree (tree.Unary o a))
 
 narrow_less : (k : _) (a : Tree) (c : Option ℕ) → TreeLess a → Less (of_tree (one_or c (word.narrow k) (roll-Tree (tree.Narrow k (simple_tree a))))) (of_tree (roll-Tree (tree.Narrow k a)))
-narrow_less k a None h = nodes_less (tree.Narrow k a) (tree.Narrow k (simple_tree a)) (record { nodes = omega (arith, h.nodes); depth = omega (arith, h.depth); reads = h.reads; statements = omega arith; calls = omega arith; arrays = none_among [] })
+narrow_less k a None h =
+    nodes_less (tree.Narrow k a) (tree.Narrow k (simple_tree a))
+    (record { nodes = omega (arith, h.nodes); depth = omega (arith, h.depth); reads = h.reads; statements = omega arith; calls = omega arith; arrays = none_among [] })
 narrow_less k a (Some n) h = number_less (word.narrow k n) (roll-Tree (tree.Narrow k a))
 
 binary_kept : (o : ℕ) (a b : Tree) → TreeLess a → TreeLess b → Less (of_tree (roll-Tree (tree.Binary o (simple_tree a) (simple_tree b)))) (of_tree (roll-Tree (tree.Binary o a b)))
@@ -142,14 +146,15 @@ trees_of x = layer_trees (map-Stm Stm (List Tree) stm_trees x)
 abbrev arrays_of : Stm-F Stm → List ℕ
 arrays_of x = layer_arrays (map-Stm Stm (List ℕ) stm_arrays x)
 
-pub leaf : (x y : Stm-F Stm) → TreesLess (trees_of y) (trees_of x) → layer_size (map-Stm Stm ℕ stm_size y) ≤ layer_size (map-Stm Stm ℕ stm_size x) → layer_calls (map-Stm Stm ℕ stm_calls y) ≤ layer_calls (map-Stm Stm ℕ stm_calls x) → Among (arrays_of y) (arrays_of x) → Within (roll-Stm x ∷ []) (alone y)
+pub leaf : (x y : Stm-F Stm) → TreesLess (trees_of y) (trees_of x) → layer_size (map-Stm Stm ℕ stm_size y) ≤ layer_size (map-Stm Stm ℕ stm_size x) →
+    layer_calls (map-Stm Stm ℕ stm_calls y) ≤ layer_calls (map-Stm Stm ℕ stm_calls x) → Among (arrays_of y) (arrays_of x) →
+    Within (roll-Stm x ∷ []) (alone y)
 leaf x y t s c a = within_one x y (record { nodes = t.nodes; depth = t.depth; reads = t.reads; statements = s; calls = c; arrays = a })
 
 -- a loop or a block
-pub inside : (x y : Stm-F Stm) (b b' : List Stm) → layer_amount x ≡ with (record { nodes = 0; depth = 0; reads = []; statements = 1; calls = 0; arrays = [] }) (amount b) → layer_amount y ≡ with (record { nodes = 0; depth = 0; reads = []; statements = 1; calls = 0; arrays = [] }) (amount b') → Within b b' → Within (roll-Stm x ∷ []) (alone y)
+pub inside : (x y : Stm-F Stm) (b b' : List Stm) → layer_amount x ≡ with bare (amount b) → layer_amount y ≡ with bare (amount b') → Within b b' → Within (roll-Stm x ∷ []) (alone y)
 inside x y b b' e f h =
-    let one : Amount = record { nodes = 0; depth = 0; reads = []; statements = 1; calls = 0; arrays = [] } in
-    within_one x y (subst (λ a. Less a (layer_amount x)) (sym f) (subst (Less (with one (amount b'))) (sym e) (less_with one one (amount b') (amount b) (less_refl one) h)))
+    within_one x y (subst (λ a. Less a (layer_amount x)) (sym f) (subst (Less (with bare (amount b'))) (sym e) (less_with bare bare (amount b') (amount b) (less_refl bare) h)))
 
 none_plus : (n : ℕ) → n ≡ 0 + n
 none_plus n = omega arith
@@ -160,11 +165,27 @@ none_max n = omega arith
 one_plus : (n : ℕ) → suc n ≡ 1 + n
 one_plus n = omega arith
 
-pub loop_amount : (b : List Stm) → layer_amount (stm.Loop b) ≡ with (record { nodes = 0; depth = 0; reads = []; statements = 1; calls = 0; arrays = [] }) (amount b)
-loop_amount b = λ i. record { nodes = none_plus (amount b).nodes i; depth = none_max (amount b).depth i; reads = (amount b).reads; statements = one_plus (amount b).statements i; calls = none_plus (amount b).calls i; arrays = (amount b).arrays }
+pub loop_amount : (b : List Stm) → layer_amount (stm.Loop b) ≡ with bare (amount b)
+loop_amount b =
+    λ i. record {
+      nodes = none_plus (amount b).nodes i;
+      depth = none_max (amount b).depth i;
+      reads = (amount b).reads;
+      statements = one_plus (amount b).statements i;
+      calls = none_plus (amount b).calls i;
+      arrays = (amount b).arrays;
+    }
 
-pub block_amount : (b : List Stm) → layer_amount (stm.Block b) ≡ with (record { nodes = 0; depth = 0; reads = []; statements = 1; calls = 0; arrays = [] }) (amount b)
-block_amount b = λ i. record { nodes = none_plus (amount b).nodes i; depth = none_max (amount b).depth i; reads = (amount b).reads; statements = one_plus (amount b).statements i; calls = none_plus (amount b).calls i; arrays = (amount b).arrays }
+pub block_amount : (b : List Stm) → layer_amount (stm.Block b) ≡ with bare (amount b)
+block_amount b =
+    λ i. record {
+      nodes = none_plus (amount b).nodes i;
+      depth = none_max (amount b).depth i;
+      reads = (amount b).reads;
+      statements = one_plus (amount b).statements i;
+      calls = none_plus (amount b).calls i;
+      arrays = (amount b).arrays;
+    }
 
 abbrev pub chooser : Tree → Amount
 chooser t = record { nodes = nodes t; depth = depth t; reads = tree_reads t; statements = 1; calls = 0; arrays = [] }
@@ -182,6 +203,9 @@ if_amount t a b = λ i. record {
     both : of_trees (trees a ++ trees b) ≡ with (of_trees (trees a)) (of_trees (trees b))
     both = of_trees_append (trees a) (trees b)
 
+pub amount_choice : (t : Tree) (a b : List Stm) → amount (choose t a b ∷ []) ≡ with (chooser t) (with (amount a) (amount b))
+amount_choice t a b = amount_one (stm.If t a b) ∙ if_amount t a b
+
 pub if_within : (t t' : Tree) (a a' b b' : List Stm) → Less (of_tree t') (of_tree t) → Within a a' → Within b b' → Within (roll-Stm (stm.If t a b) ∷ []) (alone (stm.If t' a' b'))
 if_within t t' a a' b b' h ha hb =
     let head : Less (chooser t') (chooser t) = record { nodes = h.nodes; depth = h.depth; reads = h.reads; statements = omega arith; calls = omega arith; arrays = none_among [] } in
@@ -189,7 +213,10 @@ if_within t t' a a' b b' h ha hb =
     (less_with (chooser t') (chooser t) (with (amount a') (amount b')) (with (amount a) (amount b)) head (less_with (amount a') (amount a) (amount b') (amount b) ha hb))))
 
 side_within : (t : Tree) (a b c : List Stm) → Less (amount c) (with (amount a) (amount b)) → Within (roll-Stm (stm.If t a b) ∷ []) c
-side_within t a b c h = within_many (stm.If t a b) c (subst (Less (amount c)) (sym (if_amount t a b)) (less_trans (amount c) (with (amount a) (amount b)) (with (chooser t) (with (amount a) (amount b))) h (less_right (chooser t) (with (amount a) (amount b)))))
+side_within t a b c h =
+    within_many (stm.If t a b) c (subst (Less (amount c)) (sym (if_amount t a b))
+    (less_trans (amount c) (with (amount a) (amount b)) (with (chooser t) (with (amount a) (amount b))) h
+    (less_right (chooser t) (with (amount a) (amount b)))))
 
 -- ---- constants computed
 
@@ -237,7 +264,7 @@ end_within front None = less_refl _
 end_within front (Some zero) = within_append front front (leave (Some 0)) [] (less_refl _) (less_nothing _)
 end_within front (Some (suc n)) = within_append front front (leave (Some (suc n))) (leave (Some n)) (less_refl _) (leaf (stm.Break (suc n)) (stm.Break n) (less_refl _) (omega arith) (omega arith) (none_among []))
 
-contents_within : (x : Stm-F Stm) (b c : List Stm) → layer_amount x ≡ with (record { nodes = 0; depth = 0; reads = []; statements = 1; calls = 0; arrays = [] }) (amount b) → Within b c → Within (roll-Stm x ∷ []) c
+contents_within : (x : Stm-F Stm) (b c : List Stm) → layer_amount x ≡ with bare (amount b) → Within b c → Within (roll-Stm x ∷ []) c
 contents_within x b c e h =
     let one : Amount = record { nodes = 0; depth = 0; reads = []; statements = 1; calls = 0; arrays = [] } in
     within_many x c (subst (Less (amount c)) (sym e) (less_trans (amount c) (amount b) (with one (amount b)) h (less_right one (amount b))))
@@ -305,7 +332,7 @@ module _ (needed : ℕ → Bool) where
 
 -- ---- its end shortened
 
-pair_within : (x y z : Stm-F Stm) → Less (layer_amount z) (layer_amount x) → Within (roll-Stm x ∷ roll-Stm y ∷ []) (roll-Stm z ∷ [])
+pub pair_within : (x y z : Stm-F Stm) → Less (layer_amount z) (layer_amount x) → Within (roll-Stm x ∷ roll-Stm y ∷ []) (roll-Stm z ∷ [])
 pair_within x y z h =
     let a = amount (roll-Stm x ∷ []) in
     let b = amount (roll-Stm y ∷ []) in

@@ -190,7 +190,7 @@ end_split (s ∷ t ∷ ss) = ap (λ l. s ∷ l) (end_split (t ∷ ss))
 
 -- ---- what a loop or block gives way to
 
-not_zero : (n : ℕ) → eqb (suc n) 0 ≡ false
+pub not_zero : (n : ℕ) → eqb (suc n) 0 ≡ false
 not_zero n = grind arith
 
 pub block_opens : (b : List Stm) → most_levels (without_leave b) ≡ 0 → blocked b ≡ opened b

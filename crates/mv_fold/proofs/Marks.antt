@@ -1,10 +1,10 @@
 -- Lists of marks, of which one is set.
-use Rattle.std.proofs.Common.{◌≡◌, ℕ, zero, suc, Bool, true, List, [], ◌∷◌, ◌++◌, sym, ◌∙◌, ◌⊎◌, inl, inr}
-use Rattle.std.proofs.lemmas.Bool.{or_left, or_right}
+use Rattle.std.proofs.Common.{◌≡◌, ℕ, suc, Bool, true, List, [], ◌∷◌, ◌++◌, sym, ◌∙◌, ◌⊎◌, inl, inr}
 use Rattle.mv_num.proofs.Booleans.{or_cases, from_falsity}
 use Rattle.mv_ast.specs.Names.{any_of}
 use Rattle.mv_ir.specs.Live.{mark_at}
 use Rattle.mv_ir.proofs.Joining.{any_append}
+pub use Rattle.mv_ir.proofs.Joining.{any_left, any_right, marked_any}
 
 pub any_marked : (xs : List Bool) → any_of xs ≡ true → (i : ℕ) × (mark_at xs i ≡ true)
 any_marked [] e = from_falsity e
@@ -13,17 +13,6 @@ any_marked (x ∷ xs) e = by (any_marked xs) (or_cases x (any_of xs) e)
     by : (any_of xs ≡ true → (i : ℕ) × (mark_at xs i ≡ true)) → (x ≡ true) ⊎ (any_of xs ≡ true) → (i : ℕ) × (mark_at (x ∷ xs) i ≡ true)
     by k (inl h) = (0, h)
     by k (inr h) = let further = k h in (suc further.0, further.1)
-
-pub marked_any : (xs : List Bool) (i : ℕ) → mark_at xs i ≡ true → any_of xs ≡ true
-marked_any [] i e = e
-marked_any (x ∷ xs) zero e = or_left x (any_of xs) e
-marked_any (x ∷ xs) (suc i) e = or_right x (any_of xs) (marked_any xs i e)
-
-pub any_left : (xs ys : List Bool) → any_of xs ≡ true → any_of (xs ++ ys) ≡ true
-any_left xs ys e = any_append xs ys ∙ or_left (any_of xs) (any_of ys) e
-
-pub any_right : (xs ys : List Bool) → any_of ys ≡ true → any_of (xs ++ ys) ≡ true
-any_right xs ys e = any_append xs ys ∙ or_right (any_of xs) (any_of ys) e
 
 pub any_cases : (xs ys : List Bool) → any_of (xs ++ ys) ≡ true → (any_of xs ≡ true) ⊎ (any_of ys ≡ true)
 any_cases xs ys e = or_cases (any_of xs) (any_of ys) (sym (any_append xs ys) ∙ e)

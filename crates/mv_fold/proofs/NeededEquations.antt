@@ -176,6 +176,24 @@ pub ruleset uses_of_trees = (append_assoc, append-nil, uses_number, uses_temp, u
 
 pub ruleset uses_of_callees = (append-nil, uses_direct, uses_through, uses_switched, uses_expanded)
 
-pub ruleset uses_of_stms = (append_assoc, append-nil, uses_set_stm, uses_setglobal_stm, uses_divide_stm, uses_check_stm, uses_read_stm, uses_write_stm, uses_zero_stm, uses_if_stm, uses_loop_stm, uses_block_stm, uses_break_stm, uses_back_stm, uses_call_stm, uses_known_stm, uses_return_stm)
+pub ruleset uses_of_stms = (
+  append_assoc,
+  append-nil,
+  uses_set_stm,
+  uses_setglobal_stm,
+  uses_divide_stm,
+  uses_check_stm,
+  uses_read_stm,
+  uses_write_stm,
+  uses_zero_stm,
+  uses_if_stm,
+  uses_loop_stm,
+  uses_block_stm,
+  uses_break_stm,
+  uses_back_stm,
+  uses_call_stm,
+  uses_known_stm,
+  uses_return_stm,
+)
 
 pub ruleset needed_stms = (append-nil, left_set, kept_set, kept_setglobal, kept_divide, kept_check, kept_read, kept_write, kept_zero, kept_if, kept_loop, kept_block, kept_break, kept_back, kept_call, kept_known, kept_return)

@@ -169,14 +169,22 @@ module _ (setting : Setting) (frame : Frame) (needed : ℕ → Bool) where
   related_layer : (x : Stm-F Stm) → StmChildren IsRelated x → Closed needed (layer_uses (map-Stm Stm (List Use) stm_uses x)) → R (m (roll-Stm x) ∷ []) (map m (needed_layer needed (map-Stm Stm (List Stm) (needed_stm needed) x)))
   related_layer (stm.Set t v) h a = set_related t v (needed t) refl (λ e. among needed (Some t) e v a)
   related_layer (stm.SetGlobal g v) h a = one (stm.SetGlobal g v) (stm.SetGlobal g v) (set_global_rel setting frame Agree q g v v (same_in v (for_body needed v a)) keeps)
-  related_layer (stm.Divide t o x y) h a = one (stm.Divide t o x y) (stm.Divide t o x y) (divide_rel setting frame Agree q t t o x x y y (same_in x (for_body needed x (left needed (tree_uses None x) _ a))) (same_in y (for_body needed y (right needed (tree_uses None x) _ a))) (writes t))
+  related_layer (stm.Divide t o x y) h a =
+      one (stm.Divide t o x y) (stm.Divide t o x y)
+      (divide_rel setting frame Agree q t t o x x y y (same_in x (for_body needed x (left needed (tree_uses None x) _ a)))
+      (same_in y (for_body needed y (right needed (tree_uses None x) _ a))) (writes t))
   related_layer (stm.Check r i) h a = one (stm.Check r i) (stm.Check r i) (check_rel setting frame Agree q r i i (same_in i (for_body needed i a)) keeps)
   related_layer (stm.Read t r i) h a = one (stm.Read t r i) (stm.Read t r i) (read_rel setting frame Agree q t t r i i (same_in i (for_body needed i a)) (writes t))
-  related_layer (stm.Write r i v) h a = one (stm.Write r i v) (stm.Write r i v) (write_rel setting frame Agree q r i i v v (same_in i (for_body needed i (left needed (tree_uses None i) _ a))) (same_in v (for_body needed v (right needed (tree_uses None i) _ a))) keeps)
+  related_layer (stm.Write r i v) h a =
+      one (stm.Write r i v) (stm.Write r i v)
+      (write_rel setting frame Agree q r i i v v (same_in i (for_body needed i (left needed (tree_uses None i) _ a))) (same_in v (for_body needed v (right needed (tree_uses None i) _ a))) keeps)
   related_layer (stm.Zero l) h a = one (stm.Zero l) (stm.Zero l) (zero_rel setting frame Agree q l keeps)
   related_layer (stm.If t x y) h a =
       one (stm.If t x y) (stm.If t (joined (map (needed_stm needed) x)) (joined (map (needed_stm needed) y)))
-      (if_rel setting frame Agree q t t (map m x) (map m (joined (map (needed_stm needed) x))) (map m y) (map m (joined (map (needed_stm needed) y))) (same_in t (for_body needed t (left needed (tree_uses None t) _ a))) (kids x h.0 (left needed (code_uses x) _ (right needed (tree_uses None t) _ a))) (kids y h.1 (right needed (code_uses x) _ (right needed (tree_uses None t) _ a))))
+      (if_rel setting frame Agree q t t (map m x) (map m (joined (map (needed_stm needed) x))) (map m y) (map m (joined (map (needed_stm needed) y)))
+      (same_in t (for_body needed t (left needed (tree_uses None t) _ a)))
+      (kids x h.0 (left needed (code_uses x) _ (right needed (tree_uses None t) _ a)))
+      (kids y h.1 (right needed (code_uses x) _ (right needed (tree_uses None t) _ a))))
   related_layer (stm.Loop b) h a =
       one (stm.Loop b) (stm.Loop (joined (map (needed_stm needed) b)))
       (loop_rel Agree q (in_order (map m b)) (in_order (map m (joined (map (needed_stm needed) b)))) (places_weaker Agree q (in_loop Agree q) _ _ keeps same_under same_under (kids b h a)))
@@ -185,7 +193,9 @@ module _ (setting : Setting) (frame : Frame) (needed : ℕ → Bool) where
       (block_rel Agree Agree q (in_order (map m b)) (in_order (map m (joined (map (needed_stm needed) b)))) (places_weaker Agree q (in_block Agree q) _ _ keeps same_under same_under (kids b h a)))
   related_layer (stm.Break n) h a = one (stm.Break n) (stm.Break n) (break_rel setting frame Agree q n keeps)
   related_layer (stm.Back n) h a = one (stm.Back n) (stm.Back n) (back_rel setting frame Agree q n keeps)
-  related_layer (stm.Call r f args) h a = one (stm.Call r f args) (stm.Call r f args) (call_rel setting frame Agree q r r f f args args (callee_in f (left needed (trees_uses (callee_trees f)) _ a)) (many_in args (right needed (trees_uses (callee_trees f)) _ a)) (puts r))
+  related_layer (stm.Call r f args) h a =
+      one (stm.Call r f args) (stm.Call r f args)
+      (call_rel setting frame Agree q r r f f args args (callee_in f (left needed (trees_uses (callee_trees f)) _ a)) (many_in args (right needed (trees_uses (callee_trees f)) _ a)) (puts r))
   related_layer (stm.Known r k args) h a = one (stm.Known r k args) (stm.Known r k args) (known_rel setting frame Agree q r r k args args (many_in args a) (puts r))
   related_layer (stm.Return v) h a = one (stm.Return v) (stm.Return v) (return_rel setting frame Agree q v v (same_in v (for_body needed v a)))
 

@@ -109,9 +109,13 @@ module _ (setting : Setting) (frame : Frame) where
   layer (stm.Read t a i) h d le bound st =
       within_cond d (ltb (of_tree setting frame i st) (length (elements a st))) (Next (with_temp st t (slice_index (elements a st) (of_tree setting frame i st)))) (Ends (outside a (of_tree setting frame i st) st.world)) tt tt
   layer (stm.Write a i v) h d le bound st =
-      within_cond d (ltb (of_tree setting frame i st) (length (elements a st))) (Next (with_elements a st (slice_set (elements a st) (of_tree setting frame i st) (of_tree setting frame v st)))) (Ends (outside a (of_tree setting frame i st) st.world)) tt tt
+      within_cond d (ltb (of_tree setting frame i st) (length (elements a st)))
+      (Next (with_elements a st (slice_set (elements a st) (of_tree setting frame i st) (of_tree setting frame v st))))
+      (Ends (outside a (of_tree setting frame i st) st.world)) tt tt
   layer (stm.Zero l) h d le bound st = tt
-  layer (stm.If t a b) h d le bound st = within_either d (eqb (of_tree setting frame t st) 0) (in_order (map m b) bound st) (in_order (map m a) bound st) (kids b h.1 d (omega (arith, le)) bound st) (kids a h.0 d (omega (arith, le)) bound st)
+  layer (stm.If t a b) h d le bound st =
+      within_either d (eqb (of_tree setting frame t st) 0) (in_order (map m b) bound st) (in_order (map m a) bound st)
+      (kids b h.1 d (omega (arith, le)) bound st) (kids a h.0 d (omega (arith, le)) bound st)
   layer (stm.Loop b) h d le bound st = within_loop d (in_order (map m b)) (kids b h (suc d) (omega (arith, le))) bound st
   layer (stm.Block b) h d le bound st = within_block d (in_order (map m b) bound st).outcome (kids b h (suc d) (omega (arith, le)) bound st)
   layer (stm.Break n) h d le bound st = omega (arith, le)

@@ -1,5 +1,6 @@
 -- What a loop or block gives way to keeps nothing live that wasn't: what is live at a statement depends on the places alone to which it may lead.
 use Rattle.std.proofs.Common.{arith, ◌≡◌, ℕ, zero, suc, ◌<◌, ◌≤◌, Bool, true, false, not, ◌&&◌, ◌||◌, List, [], ◌∷◌, ◌++◌, map, Option, Some, None, refl, sym, ◌∙◌, ap, subst}
+use Rattle.mv_num.proofs.Booleans.{or_false}
 use Rattle.mv_ir.specs.declared.tree.Tree.{Tree}
 use Rattle.mv_ir.specs.declared.stm.Stm.{Stm}
 use Rattle.mv_ir.specs.declared.stm.Stm.TheOpen.{Stm-F}
@@ -155,12 +156,8 @@ module _ (needed : ℕ → Bool) (front : List Stm) (same : IsThinner needed fro
   jump_covers (suc n) t q r r' fits k =
       subst (λ l. Covers (true ∷ []) l ((flows (leave (Some n)) t).marks r')) (sym (jump_marks (suc n) t q)) (subst (λ l. Covers (true ∷ []) ((q.leaves (suc n) || false) ∷ []) l) (sym (jump_marks n t r')) ((λ v. marked v), tt))
     where
-      plain_or : (b : Bool) → (b || false) ≡ b
-      plain_or true = refl
-      plain_or false = refl
-
       marked : (r'.leaves n || false) ≡ true → (q.leaves (suc n) || false) ≡ true
-      marked v = plain_or (q.leaves (suc n)) ∙ ap (λ f. f (suc n)) k ∙ (fits.leaves n (sym (plain_or (r'.leaves n)) ∙ v)).0
+      marked v = or_false (q.leaves (suc n)) ∙ ap (λ f. f (suc n)) k ∙ (fits.leaves n (sym (or_false (r'.leaves n)) ∙ v)).0
 
   block_at_end : (end : Option ℕ) (t : ℕ) (r r' : Around) → FitsAround needed t r r' → AtEnd end (from_outside end) t (around_block r) r'
   block_at_end None t r r' fits v = fits.next v

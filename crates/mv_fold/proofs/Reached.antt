@@ -1,11 +1,12 @@
 -- The search for the needed temporaries finds exactly these.
 use Rattle.std.proofs.Common.{arith, max, is_lt, nat_cmp, Less, Equal, Greater, nat_lt, ◌==◌, ◌≡◌, ℕ, zero, suc, ◌+◌, ◌<◌, ◌≤◌, Bool, true, false, cond, eqb, ◌&&◌, List, [], ◌∷◌, ◌++◌, length, map, take, set, get_or, Option, Some, None, refl, sym, ◌∙◌, ap, subst, ◌⊎◌, inl, inr, All, Contains, filter, sum_by, replicate, append_assoc}
-use Rattle.std.proofs.lemmas.Bool.{cases_eq, cases_lt, or_right, or_left}
+use Rattle.std.proofs.lemmas.Bool.{cases_eq, cases_lt, or_right, or_left, eq-eqb}
 use Rattle.std.proofs.lemmas.List.{get_or_past, take_more, take_all, length_push, length-set, get_or-set_same, get_or-set_other, length-replicate, get_or-replicate, length-append, take-append-le}
 use Rattle.std.proofs.lemmas.List.Elements.{All-more, All-map, All-weaker, All-filter, Contains-push_cases, Contains-append_left, Contains-push, Contains-get_or}
 use Rattle.std.proofs.lemmas.List.Sums.{sum_by-le, sum_by-set}
 use Rattle.std.specs.Ordering.{ord_max}
 use Rattle.mv_num.specs.Words.{as_word}
+use Rattle.mv_ir.proofs.Common.{truth_small}
 use Rattle.mv_fold.specs.declared.uses.Use.{Use}
 use Rattle.mv_fold.specs.Needed.{counts, used_in, IsNeeded}
 use Rattle.mv_fold.specs.Reaching.{row, Fits, read_by, IsReached, IsVisited}
@@ -26,9 +27,6 @@ pub record IsSearched (count : ℕ) (uses : List Use) (flags : List Bool) (order
 
 pub eqb_self : (n : ℕ) → eqb n n ≡ true
 eqb_self n = grind arith
-
-eqb_same : (a b : ℕ) → a ≡ b → eqb a b ≡ true
-eqb_same a b h = ap (λ n. eqb n b) h ∙ eqb_self b
 
 none_contained : (t : ℕ) → Contains [] t → ⊥
 none_contained t h = let lt : h.0 < 0 = h.1 in omega arith
@@ -63,13 +61,14 @@ used_from_read f k [] t every h = absurd (none_contained t h)
 used_from_read f k (x ∷ xs) t every h = by (used_from_read f k xs t every) (eqb (row x.user) k) refl h
   where
     first : (x.used ≡ t) → counts f x.user ≡ true → used_in f (x ∷ xs) t ≡ true
-    first e c = or_left _ _ (ap (λ b. b && eqb x.used t) c ∙ eqb_same x.used t e)
+    first e c = or_left _ _ (ap (λ b. b && eqb x.used t) c ∙ eq-eqb x.used t e)
 
     at : (Contains (read_by k xs) t → used_in f xs t ≡ true) → eqb (row x.user) k ≡ true → (x.used ≡ t) ⊎ Contains (read_by k xs) t → used_in f (x ∷ xs) t ≡ true
     at more e (inl same) = first same (every x.user (exact_unsigned_eq (row x.user) k e))
     at more e (inr there) = or_right _ _ (more there)
 
-    by : (Contains (read_by k xs) t → used_in f xs t ≡ true) → (c : Bool) → eqb (row x.user) k ≡ c → Contains (map used_of (cond c (x ∷ filter (λ y. eqb (row y.user) k) xs) (filter (λ y. eqb (row y.user) k) xs))) t → used_in f (x ∷ xs) t ≡ true
+    by : (Contains (read_by k xs) t → used_in f xs t ≡ true) → (c : Bool) → eqb (row x.user) k ≡ c →
+        Contains (map used_of (cond c (x ∷ filter (λ y. eqb (row y.user) k) xs) (filter (λ y. eqb (row y.user) k) xs))) t → used_in f (x ∷ xs) t ≡ true
     by more true e h = at more e (cons_cases x.used (read_by k xs) t h)
     by more false e h = or_right _ _ (more h)
 
@@ -117,13 +116,9 @@ flagged_below flags t h = by (cases_lt t (length flags))
     by (inl lt) = lt
     by (inr past) = let e : false ≡ true = sym (get_or_past flags t false past) ∙ h in absurd (cc)
 
-one_at_most : (b : Bool) → as_word b ≤ 1
-one_at_most true = omega arith
-one_at_most false = omega arith
-
 -- as many as are flagged are at most all
 flags_at_most : (flags : List Bool) → sum_by as_word flags ≤ length flags
-flags_at_most flags = omega (arith, sum_by-le as_word 1 flags (λ k d lt. one_at_most (get_or flags k d)))
+flags_at_most flags = omega (arith, sum_by-le as_word 1 flags (λ k d lt. truth_small (get_or flags k d)))
 
 -- what is read stands in the table
 pub read_fits : (n k : ℕ) (uses : List Use) → All (Fits n) uses → All (λ t. t < n) (read_by k uses)

@@ -92,7 +92,10 @@ module _ (needed : ℕ → Bool) (t : ℕ) where
   left_layer (stm.Zero l) h = alone_reads (stm.Zero l)
   left_layer (stm.If x a b) h =
       used_append (tree_uses None x) (code_uses a ++ code_uses b) ∙ ap (λ c. c || used_in needed (code_uses a ++ code_uses b) t) (tree_read None x) ∙
-      ap (λ c. reads_temp t x || c) (used_append (code_uses a) (code_uses b) ∙ ap (λ c. c || used_in needed (code_uses b) t) (kids_left a h.0) ∙ ap (λ c. read_in (needed_code needed a) || c) (kids_left b h.1) ∙ sym (any_reads_append t (trees (needed_code needed a)) (trees (needed_code needed b)))) ∙
+      ap (λ c. reads_temp t x || c)
+      (used_append (code_uses a) (code_uses b) ∙ ap (λ c. c || used_in needed (code_uses b) t) (kids_left a h.0) ∙
+      ap (λ c. read_in (needed_code needed a) || c) (kids_left b h.1) ∙
+      sym (any_reads_append t (trees (needed_code needed a)) (trees (needed_code needed b)))) ∙
       alone_reads (stm.If x (needed_code needed a) (needed_code needed b))
   left_layer (stm.Loop b) h = kids_left b h ∙ alone_reads (stm.Loop (needed_code needed b))
   left_layer (stm.Block b) h = kids_left b h ∙ alone_reads (stm.Block (needed_code needed b))

@@ -158,7 +158,8 @@ module _ (temps : ℕ) (setting : Setting) (frame : Frame) where
   stored t g v lt bound st room =
       let n = value setting.numbers frame.bound v st.temps st.world.globals in
       subst (λ r. KeepsCall (call_from r) (call_from (code_meaning setting frame (set_global g v ∷ []) bound st))) (sym (two t v (stm.SetGlobal g (temp t)) bound st))
-      (subst (λ r. KeepsCall (call_from (spend (8 + 3 * nodes v) (layer_means setting frame (stm.SetGlobal g (temp t)) bound (record st { temps = slice_set st.temps t n })))) (call_from r)) (sym (one_meaning setting frame (stm.SetGlobal g v) bound st))
+      (subst (λ r. KeepsCall (call_from (spend (8 + 3 * nodes v) (layer_means setting frame (stm.SetGlobal g (temp t)) bound (record st { temps = slice_set st.temps t n })))) (call_from r))
+      (sym (one_meaning setting frame (stm.SetGlobal g v) bound st))
       (record {
         same = ap (λ k. Returned None (with_global st.world g (slice_set (slice_index_or st.world.globals g []) 0 k))) (read_back t n st.temps st.world.globals lt room);
         cheaper = omega arith;
@@ -169,7 +170,8 @@ module _ (temps : ℕ) (setting : Setting) (frame : Frame) where
   returned t v lt bound st room =
       let n = value setting.numbers frame.bound v st.temps st.world.globals in
       subst (λ r. KeepsCall (call_from r) (call_from (code_meaning setting frame (return_with v ∷ []) bound st))) (sym (two t v (stm.Return (temp t)) bound st))
-      (subst (λ r. KeepsCall (call_from (spend (8 + 3 * nodes v) (layer_means setting frame (stm.Return (temp t)) bound (record st { temps = slice_set st.temps t n })))) (call_from r)) (sym (one_meaning setting frame (stm.Return v) bound st))
+      (subst (λ r. KeepsCall (call_from (spend (8 + 3 * nodes v) (layer_means setting frame (stm.Return (temp t)) bound (record st { temps = slice_set st.temps t n })))) (call_from r))
+      (sym (one_meaning setting frame (stm.Return v) bound st))
       (record { same = ap (λ k. Returned (Some k) st.world) (read_back t n st.temps st.world.globals lt room); cheaper = omega arith }))
 
   end_kept : (code : List Stm) (bound : Bound) (st : State) → temps ≤ length st.temps →

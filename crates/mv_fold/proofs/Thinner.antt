@@ -8,10 +8,11 @@ use Rattle.mv_ir.specs.declared.stm.Stm.TheViews.{roll-Stm}
 use Rattle.mv_ir.specs.declared.body.Body.{Body}
 use Rattle.mv_ir.specs.Live.{reads_temp, any_reads, is, Around, Flow, with_after, at_place, around_block, around_loop, live_in_order, marks_in_order, live_at_loop, plain, goes_next, flow, nowhere, live_at_start, all_marks, IsWhole, filled, interval, mark_at, HasTemps, count_at, below, marks_length, most_intervals}
 use Rattle.mv_ir.proofs.Rolls.{flow_roll, flow_of_layer}
+use Rattle.mv_ir.proofs.Common.{and_keeps}
 use Rattle.mv_ir.proofs.Keeping.{map_append}
 use Rattle.mv_ir.proofs.Joining.{greatest_most, greatest_within, live_append, marks_append}
 use Rattle.std.proofs.lemmas.Bool.{or_right, or_left}
-use Rattle.mv_num.proofs.Booleans.{or_cases, and_cases, from_falsity}
+use Rattle.mv_num.proofs.Booleans.{or_cases, from_falsity}
 use Rattle.mv_ast.specs.Names.{any_of}
 
 -- ---- marks: which positions stay, and that none of these is marked where it wasn't
@@ -97,9 +98,6 @@ or_both a b c d h k e = by (or_cases c d e)
     by (inl x) = or_left a b (h x)
     by (inr y) = or_right a b (k y)
 
-and_both : (a b c d : Bool) → (c ≡ true → a ≡ true) → (d ≡ true → b ≡ true) → (c && d) ≡ true → (a && b) ≡ true
-and_both a b c d h k e = let parts = and_cases c d e in ap (λ x. x && b) (h parts.0) ∙ k parts.1
-
 covers_filled : (ms xs ys : List Bool) → Covers ms xs ys → (b b' : Bool) → (b' ≡ true → b ≡ true) → (i : ℕ) → mark_at (filled b' ys) i ≡ true → mark_at (filled b xs) (place ms i) ≡ true
 covers_filled [] [] [] h b b' g i e = from_falsity e
 covers_filled [] [] (y ∷ ys) h b b' g i e = absurd h
@@ -107,7 +105,7 @@ covers_filled [] (x ∷ xs) ys h b b' g i e = absurd h
 covers_filled (true ∷ ms) [] ys h b b' g i e = absurd h
 covers_filled (true ∷ ms) (x ∷ xs) [] h b b' g i e = absurd h
 covers_filled (true ∷ ms) (x ∷ xs) (y ∷ ys) h b b' g zero e =
-    and_both (b || x) (x || any_of xs) (b' || y) (y || any_of ys) (or_both b x b' y g h.0) (or_both x (any_of xs) y (any_of ys) h.0 (covers_any ms xs ys h.1)) e
+    and_keeps (b' || y) (y || any_of ys) (b || x) (x || any_of xs) (or_both b x b' y g h.0) (or_both x (any_of xs) y (any_of ys) h.0 (covers_any ms xs ys h.1)) e
 covers_filled (true ∷ ms) (x ∷ xs) (y ∷ ys) h b b' g (suc i) e = covers_filled ms xs ys h.1 (b || x) (b' || y) (or_both b x b' y g h.0) i e
 covers_filled (false ∷ ms) [] ys h b b' g i e = absurd h
 covers_filled (false ∷ ms) (x ∷ xs) ys h b b' g i e = covers_filled ms xs ys h (b || x) b' (λ c. or_left b x (g c)) i e
@@ -309,7 +307,9 @@ module _ (needed : ℕ → Bool) where
     pub has_temps : HasTemps b → HasTemps b'
     pub intervals : most_intervals b' ≤ most_intervals b
 
-  pub body_intervals : (b : Body) (code : List Stm) (m : List Bool) → ((t : ℕ) → live_at_start t code ≡ true → live_at_start t b.code ≡ true) → ((t : ℕ) → Covers m (marks_in_order (map (flow t) b.code) nowhere) (marks_in_order (map (flow t) code) nowhere)) → KeepsIntervals b (record b { code = code })
+  pub body_intervals : (b : Body) (code : List Stm) (m : List Bool) → ((t : ℕ) → live_at_start t code ≡ true → live_at_start t b.code ≡ true) →
+      ((t : ℕ) → Covers m (marks_in_order (map (flow t) b.code) nowhere) (marks_in_order (map (flow t) code) nowhere)) →
+      KeepsIntervals b (record b { code = code })
   body_intervals b code m live marks = record {
     whole = λ w t v. w t (live t v);
     has_temps = λ w i t v. w (place (true ∷ m) i) t (covers_mark (true ∷ m) (all_marks b t) (all_marks (record b { code = code }) t) (covered t) i v);

@@ -1,5 +1,6 @@
 -- Folding keeps bodies well formed.
 use Rattle.std.proofs.Common.{arith, ◌≡◌, ℕ, zero, suc, ◌+◌, ◌^◌, ◌≤◌, Bool, true, false, cond, ◌&&◌, List, [], ◌∷◌, ◌++◌, length, map, Option, Some, None, refl, sym, ◌∙◌, ap, subst, Contains, nat_lt, nat_eq}
+use Rattle.std.proofs.Math.Bool.{and_assoc}
 use Rattle.std.proofs.lemmas.Bool.{lt-ltb, ltb-true}
 use Rattle.mv_ir.specs.declared.tree.Tree.{Tree}
 use Rattle.mv_ir.specs.declared.stm.Array.{Array}
@@ -16,6 +17,7 @@ use Rattle.mv_ir.specs.Live.{HasTemps}
 use Rattle.mv_ir.specs.WellFormed.{all_true, all_around, layer_targets, stm_targets, callee_named, layer_named, stm_named, named, has_room, is_there, known_arguments, layer_arguments, stm_arguments, IsWellFormed}
 use Rattle.mv_ir.proofs.Induction.{Each, StmChildren}
 use Rattle.mv_ir.proofs.Rolls.{targets_roll, named_roll, arguments_roll}
+use Rattle.mv_ir.proofs.Common.{and_keeps}
 use Rattle.mv_ir.proofs.Keeping.{map_append}
 use Rattle.mv_ir.proofs.Lists.{joined_append}
 use Rattle.mv_ir.specs.Rolled.{temp}
@@ -54,9 +56,6 @@ keep_trans a b c h k = record { targets = λ r e. k.targets r (h.targets r e); a
 abbrev pub both : Facts → Facts → Facts
 both a b = record { targets = λ r. a.targets r && b.targets r; arguments = a.arguments && b.arguments; named = λ p. a.named p && b.named p }
 
-and_keeps : (a b c d : Bool) → (a ≡ true → c ≡ true) → (b ≡ true → d ≡ true) → (a && b) ≡ true → (c && d) ≡ true
-and_keeps a b c d h k e = let parts = and_cases a b e in ap (λ x. x && d) (h parts.0) ∙ k parts.1
-
 keep_both : (a a' b b' : Facts) → Keep a a' → Keep b b' → Keep (both a b) (both a' b')
 keep_both a a' b b' h k = record {
   targets = λ r. and_keeps (a.targets r) (b.targets r) (a'.targets r) (b'.targets r) (h.targets r) (k.targets r);
@@ -82,10 +81,6 @@ keep_second a b = record {
 
 abbrev pub facts : List Stm → Facts
 facts code = record { targets = all_around (map stm_targets code); arguments = all_true (map stm_arguments code); named = λ p. all_true (map p (named code)) }
-
-and_assoc : (a b c : Bool) → ((a && b) && c) ≡ (a && (b && c))
-and_assoc true b c = refl
-and_assoc false b c = refl
 
 around_append : (fs gs : List (List Bool → Bool)) (r : List Bool) → all_around (fs ++ gs) r ≡ (all_around fs r && all_around gs r)
 around_append [] gs r = refl
@@ -151,7 +146,9 @@ if_facts t a b = λ i. record {
 
 pub if_kept : (t t' : Tree) (a a' b b' : List Stm) → Kept a a' → Kept b b' → Kept (roll-Stm (stm.If t a b) ∷ []) (alone (stm.If t' a' b'))
 if_kept t t' a a' b b' h k =
-    kept_one (stm.If t a b) (stm.If t' a' b') (subst (λ f. Keep f (layer_facts (stm.If t' a' b'))) (sym (if_facts t a b)) (subst (Keep (both (facts a) (facts b))) (sym (if_facts t' a' b')) (keep_both (facts a) (facts a') (facts b) (facts b') h k)))
+    kept_one (stm.If t a b) (stm.If t' a' b')
+    (subst (λ f. Keep f (layer_facts (stm.If t' a' b'))) (sym (if_facts t a b))
+    (subst (Keep (both (facts a) (facts b))) (sym (if_facts t' a' b')) (keep_both (facts a) (facts a') (facts b) (facts b') h k)))
 
 side_kept : (t : Tree) (a b c : List Stm) → Keep (both (facts a) (facts b)) (facts c) → Kept (roll-Stm (stm.If t a b) ∷ []) c
 side_kept t a b c h = kept_many (stm.If t a b) c (subst (λ f. Keep f (facts c)) (sym (if_facts t a b)) h)
@@ -329,7 +326,8 @@ true_all p [] h = refl
 true_all p (y ∷ ys) h = ap (λ b. b && all_true (map p ys)) (h y (cons_head y ys y refl)) ∙ true_all p ys (λ z c. h z (cons_tail y ys z c))
 
 -- code in which no jump loses its target, no name its room and no call its arguments, that reads no other globals, and isn't too large
-pub kept_well_formed : (b : Body) (temps : ℕ) (code : List Stm) → Kept b.code code → HasTemps (record b { temps = temps; code = code }) → ((g : ℕ) → Contains (scalars_read code) g → Contains (scalars_read b.code) g) → statements code + tree_nodes code ≤ 2 ^ 30 →
+pub kept_well_formed : (b : Body) (temps : ℕ) (code : List Stm) → Kept b.code code → HasTemps (record b { temps = temps; code = code }) →
+    ((g : ℕ) → Contains (scalars_read code) g → Contains (scalars_read b.code) g) → statements code + tree_nodes code ≤ 2 ^ 30 →
     IsWellFormed b → IsWellFormed (record b { temps = temps; code = code })
 kept_well_formed b temps code kept has scalars size w =
     record {

@@ -26,6 +26,19 @@ among_append ms ns ms' ns' h k g c = by (Contains-append_cases ms ms' g c)
     by (inl e) = Contains-append_left ns ns' g (h g e)
     by (inr e) = Contains-append_right ns ns' g (k g e)
 
+pub among_both : (ms ns ls : List ℕ) → Among ms ls → Among ns ls → Among (ms ++ ns) ls
+among_both ms ns ls h k g c = by (Contains-append_cases ms ns g c)
+  where
+    by : Contains ms g ⊎ Contains ns g → Contains ls g
+    by (inl e) = h g e
+    by (inr e) = k g e
+
+pub among_left : (ms ns ls : List ℕ) → Among ms ns → Among ms (ns ++ ls)
+among_left ms ns ls h g c = Contains-append_left ns ls g (h g c)
+
+pub among_right : (ms ns ls : List ℕ) → Among ms ls → Among ms (ns ++ ls)
+among_right ms ns ls h g c = Contains-append_right ns ls g (h g c)
+
 pub none_among : (ns : List ℕ) → Among [] ns
 none_among ns g (k, lt, e) = absurd (omega (arith, lt))
 
@@ -79,6 +92,10 @@ less_with a a' b b' h k = record {
   calls = omega (arith, h.calls, k.calls);
   arrays = among_append a.arrays a'.arrays b.arrays b'.arrays h.arrays k.arrays;
 }
+
+-- a statement that has no trees, as a jump
+abbrev pub bare : Amount
+bare = record { nodes = 0; depth = 0; reads = []; statements = 1; calls = 0; arrays = [] }
 
 abbrev pub nothing : Amount
 nothing = record { nodes = 0; depth = 0; reads = []; statements = 0; calls = 0; arrays = [] }

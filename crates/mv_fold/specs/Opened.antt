@@ -1,5 +1,6 @@
 -- Loops and blocks that give way to their statements: where nothing in them leads out of them but a jump at their end.
 use Rattle.std.specs.Prelude.{ℕ, suc, ◌+◌, ◌-◌, max, Bool, true, false, cond, ◌&&◌, ◌==◌, if◌then◌else◌, List, [], ◌∷◌, ◌++◌, map, Option, Some, None, is_some}
+use Rattle.mv_ast.specs.Counts.{greatest}
 use Rattle.mv_ir.specs.declared.stm.Stm.{Stm, out-Stm}
 use Rattle.mv_ir.specs.declared.stm.Stm.TheOpen.{Stm-F}
 use Rattle.mv_ir.specs.declared.stm.Stm.TheOpen as stm
@@ -8,10 +9,6 @@ use Rattle.mv_ir.specs.declared.stm.Stm.TheFolds.{fold-Stm}
 use Rattle.mv_ir.specs.Rolled.{break}
 
 -- ---- how far jumps lead
-
-abbrev pub greatest : List ℕ → ℕ
-greatest [] = 0
-greatest (n ∷ ns) = max n (greatest ns)
 
 abbrev pub layer_levels : Stm-F ℕ → ℕ
 layer_levels (stm.If t a b) = max (greatest a) (greatest b)

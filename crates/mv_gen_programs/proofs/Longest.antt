@@ -1,10 +1,10 @@
 -- A part that fits before a byte is the lexeme to take before that byte.
 use Rattle.std.proofs.Common.{◌≡◌, ℕ, zero, suc, ◌+◌, ◌-◌, ◌<◌, ◌≤◌, ◌^◌, Bool, true, false, Option, Some, None, List, [], ◌∷◌, ◌++◌, length, get_or, take, refl, sym, ap, subst, ◌∙◌, inl, inr, arith, length-append}
 use Rattle.std.specs.Prelude.{◌&&◌, ◌||◌, ◌⊎◌, ◌==◌, not, nat_eq, nat_le, nat_lt}
-use Rattle.std.proofs.lemmas.Bool.{and_parts, and_from, not-true, or_left, or_right, both_ways, eq-eqb, eqb-true, ltb-true, leb-true, false≢true}
+use Rattle.std.proofs.lemmas.Bool.{and_parts, not-true, or_left, or_right, both_ways, eq-eqb, eqb-true, ltb-true, leb-true, false≢true}
+use Rattle.std.proofs.lemmas.Cmp.{nat_list_eq_equiv}
 use Rattle.std.proofs.Math.ListN.{get_or-append}
 use Rattle.std.proofs.Math.Seq.{take-append_seam, take-append-add}
-use Rattle.std.specs.Cmp.Lexicographic.{pointwise}
 use Rattle.std.specs.Fmt.{decimal}
 use Rattle.std.specs.List.{list_all}
 use Rattle.std.specs.Char.{is_ascii_digit}
@@ -26,10 +26,6 @@ use Rattle.mv_gen_programs.proofs.Parts.{Part, blank, word, name, number, sign, 
 use Rattle.mv_check_outline.specs.Names.{same_name}
 
 -- ---- lists
-
-pub same_self : (s : List ℕ) → same_name s s ≡ true
-same_self [] = refl
-same_self (x ∷ s) = and_from (nat_eq x x) (pointwise nat_eq s s) (eq-eqb x x refl) (same_self s)
 
 pub all_at : (p : ℕ → Bool) (s : List ℕ) → list_all p s ≡ true → (i : ℕ) → i < length s → p (get_or s i 0) ≡ true
 all_at p [] h i lt = absurd (omega arith)
@@ -57,7 +53,7 @@ take_one (x ∷ s) h = refl
 pub no_entry : (table : Table) (s : List ℕ) → each_passes (λ e. not (same_name s e)) (entries table) ≡ true → (k : ℕ) → IsEntry table k s → ⊥
 no_entry table s h k is =
     let differs : not (same_name s (get_or (entries table) k [])) ≡ true = passes_at (λ e. not (same_name s e)) (entries table) h k is.in_range in
-    both_ways (same_name s (get_or (entries table) k [])) (not-true (same_name s (get_or (entries table) k [])) differs) (ap (same_name s) (sym is.is) ∙ same_self s)
+    both_ways (same_name s (get_or (entries table) k [])) (not-true (same_name s (get_or (entries table) k [])) differs) (ap (same_name s) (sym is.is) ∙ nat_list_eq_equiv.refl s)
 
 -- no entry of a row is longer
 no_longer : (table : Table) (s rest : List ℕ) → is_longest s (get_or rest 0 0) (entries table) ≡ true → NoLonger table (length (entries table)) (length s) (s ++ rest)
@@ -72,7 +68,7 @@ no_longer table s rest h = λ k m below longer in_range is.
     ∙ ap (λ t. s ++ t) (take_one rest some))) in
     let differs = passes_at (λ e. not (same_name (take (length s + 1) e) (s ++ (get_or rest 0 0 ∷ [])))) (entries table) h k below in
     let t = same_name (take (length s + 1) e) (s ++ (get_or rest 0 0 ∷ [])) in
-    both_ways t (not-true t differs) (ap (λ x. same_name x (s ++ (get_or rest 0 0 ∷ []))) front ∙ same_self (s ++ (get_or rest 0 0 ∷ [])))
+    both_ways t (not-true t differs) (ap (λ x. same_name x (s ++ (get_or rest 0 0 ∷ []))) front ∙ nat_list_eq_equiv.refl (s ++ (get_or rest 0 0 ∷ [])))
 
 -- ---- lexemes
 

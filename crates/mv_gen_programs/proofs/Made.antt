@@ -109,5 +109,18 @@ module _ (p q r m : Places) (seed n : ℕ) (few : suc n ≤ 40) (at : Place) whe
   pub items_judged : go all_items (nothing_declared (known count)) ≡ Good (last_contents count (slots (done ++ main_function count ∷ []) 0))
   items_judged =
       let long : length (all_functions count) ≡ suc count = omega (arith, length-append (function_names 0 count) (codes "main" ∷ []), names_long 0 count) in
-      ap (λ k. go all_items (record { scope = record { names = record { here = []; around = [] }; tags = record { here = []; around = [] }; enumerations = []; signatures = []; locals = []; attributed = false }; objects = []; functions = replicate k None })) long
-      ∙ (ap (λ (v : Judged Contents). and_then v (go (definition_trees q seed 0 count ++ body_items))) (switches_judged count p (replicate (suc count) None)) ∙ functions_all)
+      ap (λ k. go all_items (record {
+        scope = record {
+          names = record { here = []; around = [] };
+          tags = record { here = []; around = [] };
+          enumerations = [];
+          signatures = [];
+          locals = [];
+          attributed = false;
+        };
+        objects = [];
+        functions = replicate k None;
+      })) long ∙
+      (ap (λ (v : Judged Contents). and_then v (go (definition_trees q seed 0 count ++ body_items)))
+      (switches_judged count p (replicate (suc count) None)) ∙
+      functions_all)

@@ -5,13 +5,13 @@ use Rattle.std.specs.Fmt.{decimal}
 use Rattle.std.specs.List.{prefix_len}
 use Rattle.std.specs.Cmp.Lexicographic.{pointwise, same_text}
 use Rattle.std.proofs.lemmas.Bool.{cases_lt, lt-ltb}
+use Rattle.std.proofs.lemmas.Cmp.{nat_list_eq_equiv}
 use Rattle.std.proofs.lemmas.Fmt.{decimal_injective}
 use Rattle.std.proofs.lemmas.List.Folds.{list_any-append}
 use Rattle.mv_check_scope.specs.declared.meaning.Meaning.TheVariants as meaning
 use Rattle.mv_check_scope.specs.Names.{Names}
 use Rattle.mv_check_scope.specs.Spaces.{named}
 use Rattle.mv_check_outline.specs.Names.{same_name, is_among, with_name, each_once, place_of, among}
-use Rattle.mv_gen_programs.proofs.Longest.{same_self}
 use Rattle.mv_gen_programs.proofs.Lines.{function_name}
 use Rattle.mv_gen_programs.proofs.MainBody.{routine}
 
@@ -39,7 +39,7 @@ function_named n i (suc count) rest few low high =
           rw e (function_named n (suc i) count rest (omega arith) (omega arith) (omega arith))
       | inr more ↦
           let same : i ≡ n = omega arith in
-          let e : pointwise nat_eq (function_name n) (function_name i) ≡ true = ap (λ k. pointwise nat_eq (function_name n) (function_name k)) same ∙ same_self (function_name n) in
+          let e : pointwise nat_eq (function_name n) (function_name i) ≡ true = ap (λ k. pointwise nat_eq (function_name n) (function_name k)) same ∙ nat_list_eq_equiv.refl (function_name n) in
           rw e (ap (λ k. Some (meaning.Function (routine k))) same)
     ]
 
@@ -88,7 +88,7 @@ function_among n i (suc count) rest few low high =
           rw e (function_among n (suc i) count rest (omega arith) (omega arith) (omega arith))
       | inr more ↦
           let same : i ≡ n = omega arith in
-          let e : pointwise nat_eq (function_name n) (function_name i) ≡ true = ap (λ k. pointwise nat_eq (function_name n) (function_name k)) same ∙ same_self (function_name n) in
+          let e : pointwise nat_eq (function_name n) (function_name i) ≡ true = ap (λ k. pointwise nat_eq (function_name n) (function_name k)) same ∙ nat_list_eq_equiv.refl (function_name n) in
           rw e refl
     ]
 
@@ -179,7 +179,7 @@ prefix_is n i (suc count) rest few low high =
           rw e (omega (arith, more))
       | inr more ↦
           let same : i ≡ n = omega arith in
-          let e : pointwise nat_eq (function_name n) (function_name i) ≡ true = ap (λ k. pointwise nat_eq (function_name n) (function_name k)) same ∙ same_self (function_name n) in
+          let e : pointwise nat_eq (function_name n) (function_name i) ≡ true = ap (λ k. pointwise nat_eq (function_name n) (function_name k)) same ∙ nat_list_eq_equiv.refl (function_name n) in
           rw e (omega arith)
     ]
 

@@ -218,5 +218,10 @@ unit_good seed =
         ((q r m : Places) (at : Place) → unit_judgement (record { items = unit_items (unit_places seed) q r m seed k (line_at at (a.Block (main_lines m k))); end = (unit_tokens seed).end }) ≡ Good (program_with seed k)) →
         unit_judgement (unit_of seed) ≡ Good (program seed)
     at_count k e h =
-        let go = subst (λ c. (q r m : Places) (at : Place) → unit_judgement (record { items = unit_items (unit_places seed) q r m seed c (line_at at (a.Block (main_lines m c))); end = (unit_tokens seed).end }) ≡ Good (program_with seed c)) e h in
+        let go = subst (λ c. (q r m : Places) (at : Place) →
+        unit_judgement (record {
+          items = unit_items (unit_places seed) q r m seed c (line_at at (a.Block (main_lines m c)));
+          end = (unit_tokens seed).end;
+        }) ≡
+        Good (program_with seed c)) e h in
         go (past (unit_places seed) switch_parts) (object_places seed (unit_places seed)) (main_places seed (unit_places seed)) (main_places seed (unit_places seed) 5)

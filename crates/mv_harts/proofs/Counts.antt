@@ -1,10 +1,11 @@
 -- A run has as many harts as it began with.
-use Rattle.std.proofs.Common.{◌≡◌, ℕ, zero, suc, ◌-◌, ◌≤◌, Bool, true, false, ◌&&◌, if◌then◌else◌, List, [], ◌∷◌, length, map, set, slice_get, Option, Some, None, refl, ap, ◌∙◌, arith, length-set}
+use Rattle.std.proofs.Common.{◌≡◌, ℕ, zero, suc, ◌-◌, ◌≤◌, Bool, true, false, ◌&&◌, if◌then◌else◌, List, [], ◌∷◌, length, map, set, slice_get, Option, Some, None, ◌∙◌, arith, length-set}
 use Rattle.std.proofs.lemmas.List.{length-map}
 use Rattle.mv_bindings.specs.declared.binding.Binding.{Binding}
 use Rattle.mv_bindings.specs.Acts.{Act, Skip}
 use Rattle.mv_image.specs.Spelling.{Fields}
-use Rattle.mv_harts_runs.specs.Harts.{Hart, Harts, Mode, Runs, Parked, Freed, Move, Place, AtOrder, AtPoll, Elsewhere, Store, Turn, all_away, at_poll, executes, fails, first_harts, freed, harts_after, is_commit, is_on, leader_by, leader_commits, leader_goes, leader_waits, move, next_act, other_at, other_by, other_fails, other_goes, other_turn, others_from, shared, turn_of}
+use Rattle.mv_harts_runs.specs.Harts.{Hart, Harts, Mode, Runs, Parked, Freed, Move, Place, AtOrder, AtPoll, Elsewhere, Store, Turn, all_away, at_poll, executes, fails, first_harts, freed, harts_after, is_commit, is_on, leader_by, leader_commits, leader_goes, leader_waits, move, next_act, other_at, other_by, other_fails, other_goes, other_turn, shared, turn_of}
+use Rattle.mv_harts_runs.proofs.Lists.{others_length}
 
 module _ (n : ℕ) where
   -- beside hart 0
@@ -57,12 +58,8 @@ module _ (n : ℕ) where
   run_keeps hs [] h = h
   run_keeps hs (t ∷ ts) h = run_keeps (turn_of hs t.hart t.pick t.failing) ts (turn_keeps hs t.hart t.pick t.failing h)
 
-from_many : (k : ℕ) (image : Fields) (input : ℕ → List (Option ℕ)) (count : ℕ) → length (others_from k image input count) ≡ count
-from_many k image input zero = refl
-from_many k image input (suc count) = ap suc (from_many (suc k) image input count)
-
 -- so many in all
 pub many : (image : Fields) (input : ℕ → List (Option ℕ)) (count : ℕ) (actions : List Act) (turns : List Turn) → 1 ≤ count →
     let hs = harts_after (first_harts image input (count - 1) actions) turns in length (hs.leader ∷ hs.others) ≡ count
 many image input count actions turns some =
-    let others = run_keeps (count - 1) (first_harts image input (count - 1) actions) turns (from_many 1 image input (count - 1)) in omega (arith, others, some)
+    let others = run_keeps (count - 1) (first_harts image input (count - 1) actions) turns (others_length 1 image input (count - 1)) in omega (arith, others, some)

@@ -1,5 +1,5 @@
 -- Lists that agree place by place.
-use Rattle.std.proofs.Common.{◌≡◌, ℕ, suc, List, [], ◌∷◌, length, map, slice_get, Option, Some, None, option_map, refl, sym, ap, ◌∙◌, subst}
+use Rattle.std.proofs.Common.{◌≡◌, ℕ, suc, List, [], ◌∷◌, length, map, slice_get, Option, Some, None, option_map, refl, sym, ap, subst}
 use Rattle.std.proofs.lemmas.Option.{slice_get-map}
 use Rattle.mv_harts_turns.specs.Pairs.{Both, Pairs}
 
@@ -20,13 +20,6 @@ beside_right R None None c both e = absurd (cc)
 beside_right R None (Some d) c both e = absurd both
 beside_right R (Some a) None c both e = absurd both
 beside_right R (Some a) (Some d) c both e = let same : d ≡ c = cc in (a, refl, subst (R a) same both)
-
-some_map : {A B : Type 0} (f : A → B) (o : Option A) (y : B) → option_map f o ≡ Some y → (x : A) × (o ≡ Some x) × (y ≡ f x)
-some_map f None y e = absurd (cc)
-some_map f (Some x) y e = (x, refl, cc)
-
-pub map_there : {A B : Type 0} (f : A → B) (xs : List A) (n : ℕ) (y : B) → slice_get (map f xs) n ≡ Some y → (x : A) × (slice_get xs n ≡ Some x) × (y ≡ f x)
-map_there f xs n y e = some_map f (slice_get xs n) y (sym (slice_get-map f xs n) ∙ e)
 
 -- lists that agree are of one length
 pub same_length : {A C : Type 0} (R : ℕ → A → C → Type 0) (xs : List A) (ys : List C) → Pairs R xs ys → length xs ≡ length ys

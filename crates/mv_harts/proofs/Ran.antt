@@ -8,10 +8,11 @@ use Rattle.mv_ast.specs.declared.program.Program.{Program}
 use Rattle.mv_bindings.specs.declared.action.Action.{Action}
 use Rattle.mv_bindings.specs.Acts.{IsOfWord, act_of}
 use Rattle.mv_image.specs.Spelling.{Fields}
-use Rattle.mv_machine.specs.Actions.{fits}
+use Rattle.mv_machine.specs.Actions.{fits_rows}
 use Rattle.mv_machine.specs.Runs.{State, bytes_to_come}
 use Rattle.mv_harts_runs.specs.Harts.{Hart, Harts}
 use Rattle.mv_harts_runs.specs.Alone.{IsWell}
+use Rattle.mv_harts_runs.proofs.Lists.{map_there}
 use Rattle.mv_harts_meant.specs.Laws.{ActionsPass, AreBytes, FittingLaw, Means, MeansLaw}
 use Rattle.mv_harts_meant.specs.Runnable.{IsRunnable, fits_in}
 use Rattle.mv_harts_one.specs.declared.seat.Seat.{Seat}
@@ -25,7 +26,7 @@ use Rattle.mv_harts.specs.declared.ends.HartsEnd.{HartsEnd}
 use Rattle.mv_harts.specs.Ends.{IsEnd, end_of}
 use Rattle.mv_harts.specs.HartsRan.{Fails, HartsRan, IsKept, TellsBytes, all_of}
 use Rattle.mv_harts.proofs.Counts.{many}
-use Rattle.mv_harts.proofs.Pairing.{beside_right, both_in_map, map_there, same_length}
+use Rattle.mv_harts.proofs.Pairing.{beside_right, both_in_map, same_length}
 use Rattle.mv_harts.proofs.Stops.{NeverFaults, end_right, fails_of}
 
 -- ---- the sources
@@ -52,7 +53,7 @@ bytes_told left sources h = unwrap_or (option_and_then left (slice_get sources h
 
 -- what the run of a group asks for
 pub is_ready : (p : Program) (image : Fields) (actions : List Action) (bytes : ℕ → List ℕ) → FittingLaw → ActionsPass → IsRunnable p image → AreBytes bytes → All IsOfWord actions →
-    All (λ action. IsTrue (fits image.switches action)) actions → IsReadyFor image (λ h. bytes_to_come (bytes h)) (map act_of actions)
+    All (λ action. IsTrue (fits_rows image.switches action)) actions → IsReadyFor image (λ h. bytes_to_come (bytes h)) (map act_of actions)
 is_ready p image actions bytes fitting pass sound are words fit = (fits_in p, fitting p image sound bytes are, pass p image sound actions words fit)
 
 -- without memory for what is told, the whole schedule was run
@@ -76,7 +77,7 @@ never_of : (p : Program) (h : ℕ) (bytes : List ℕ) (o : Hart) → Means p h b
 never_of p h bytes o means why e = means.ends.faults why e
 
 module _ (p : Program) (image : Fields) (actions : List Action) (count : ℕ) (schedule : List ℕ) (was : Outside) (law : MeansLaw) (pass : ActionsPass) (sound : IsRunnable p image)
-    (bytes : AreBytes (bytes_of was)) (words : All IsOfWord actions) (fit : All (λ action. IsTrue (fits image.switches action)) actions) where
+    (bytes : AreBytes (bytes_of was)) (words : All IsOfWord actions) (fit : All (λ action. IsTrue (fits_rows image.switches action)) actions) where
   abbrev after : List Bool → Harts
   after failing = harts_of image actions count was schedule failing
 

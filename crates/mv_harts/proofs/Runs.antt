@@ -24,6 +24,7 @@ use Rattle.mv_harts.specs.Texts.{text_of, texts_from}
 use Rattle.mv_harts.proofs.Pairing.{same_length}
 use Rattle.mv_harts.proofs.TextsSame.{AreFaultless, HaveOutputs, texts_same, unfailed_all}
 use Rattle.mv_harts.proofs.Unfailing.{AreGood, unfailing}
+use Rattle.mv_num.proofs.Lists.{last_there}
 
 -- ---- the sources
 
@@ -35,10 +36,6 @@ snoc_before : {A : Type 0} (xs : List A) (x : A) (h : ℕ) → h < length xs →
 snoc_before [] x h here = absurd (omega (arith, here))
 snoc_before (y ∷ ys) x zero here = refl
 snoc_before (y ∷ ys) x (suc h) here = snoc_before ys x h (omega (arith, here))
-
-snoc_last : {A : Type 0} (xs : List A) (x : A) → slice_get (xs ++ x ∷ []) (length xs) ≡ Some x
-snoc_last [] x = refl
-snoc_last (y ∷ ys) x = snoc_last ys x
 
 snoc_length : {A : Type 0} (xs : List A) (x : A) → length (xs ++ x ∷ []) ≡ suc (length xs)
 snoc_length [] x = refl
@@ -62,7 +59,7 @@ cases_at (suc h) (suc n) here = on (cases_at h n (omega (arith, here)))
 source_by : (n h : ℕ) → (h < n → slice_get (first_sources n) h ≡ Some (source_of h)) → (h < n) ⊎ (h ≡ n) → slice_get (first_sources n ++ source_of n ∷ []) h ≡ Some (source_of h)
 source_by n h before (inl lt) = snoc_before (first_sources n) (source_of n) h (let many = sources_many n in omega (arith, many, lt)) ∙ before lt
 source_by n h before (inr e) =
-    ap (λ (k : ℕ). slice_get (first_sources n ++ source_of n ∷ []) k) (e ∙ sym (sources_many n)) ∙ snoc_last (first_sources n) (source_of n) ∙ ap (λ (k : ℕ). Some (source_of k)) (sym e)
+    ap (λ (k : ℕ). slice_get (first_sources n ++ source_of n ∷ []) k) (e ∙ sym (sources_many n)) ∙ last_there (first_sources n) (source_of n) ∙ ap (λ (k : ℕ). Some (source_of k)) (sym e)
 
 source_at : (n h : ℕ) → h < n → slice_get (first_sources n) h ≡ Some (source_of h)
 unfolding first_sources

@@ -61,7 +61,8 @@ pub rest_more : (i : ℕ) (ends : List HartEnd) (sinks : List Keeping) (end : Ha
 unfolding texts_from
 rest_more i ends sinks end sink here there is at =
     let on : suc i ≡ i + 1 = omega arith in
-    ap₂ (texts_from i) (drop-cons ends i end here ∙ ap₂ (λ (e : HartEnd) (es : List HartEnd). e ∷ es) (sym is) (ap (λ (k : ℕ). drop k ends) on)) (drop-cons sinks i sink there ∙ ap₂ (λ (k : Keeping) (ks : List Keeping). k ∷ ks) (sym at) (ap (λ (k : ℕ). drop k sinks) on)) ∙
+    ap₂ (texts_from i) (drop-cons ends i end here ∙ ap₂ (λ (e : HartEnd) (es : List HartEnd). e ∷ es) (sym is) (ap (λ (k : ℕ). drop k ends) on))
+    (drop-cons sinks i sink there ∙ ap₂ (λ (k : Keeping) (ks : List Keeping). k ∷ ks) (sym at) (ap (λ (k : ℕ). drop k sinks) on)) ∙
     ap (λ k. hart_text i end.stop sink.bytes.items ++ texts_from k (drop (i + 1) ends) (drop (i + 1) sinks)) on
 
 pub lines_more : (i : ℕ) (ends : List HartEnd) (sinks : List Keeping) (end : HartEnd) (sink : Keeping) (old new bytes : List ℕ) (stop : HartStop) → i < length ends → i < length sinks → end ≡ get_or ends i end →

@@ -5,8 +5,9 @@ use Rattle.std.proofs.lemmas.Option.{none-some, slice_get-map}
 use Rattle.mv_bindings.specs.declared.binding.Binding.{Binding}
 use Rattle.mv_bindings.specs.Acts.{Act, Skip, Adopt}
 use Rattle.mv_machine.specs.Runs.{adopts}
-use Rattle.mv_harts_runs.specs.Harts.{Hart, Harts, Mode, Runs, Parked, Freed, Move, Place, AtOrder, AtPoll, Elsewhere, Store, all_away, at_poll, executes, fails, freed, harts_after, is_commit, is_on, last_of, shared_room, leader_by, leader_commits, leader_goes, leader_waits, move, next_act, other_at, other_by, other_fails, other_goes, other_turn, shared, turn_of}
+use Rattle.mv_harts_runs.specs.Harts.{Hart, Harts, Mode, Runs, Parked, Freed, Move, Place, AtOrder, AtPoll, Elsewhere, all_away, at_poll, executes, fails, freed, harts_after, is_commit, is_on, last_of, leader_by, leader_commits, leader_goes, leader_waits, move, next_act, other_at, other_by, other_fails, other_goes, other_turn, shared, turn_of}
 use Rattle.mv_harts_turns.specs.Runs.{turns_by}
+use Rattle.mv_harts_turns.proofs.Standing.{shared_failed}
 use Rattle.mv_harts.specs.HartsRan.{all_of}
 
 -- no hart of these has failed
@@ -48,9 +49,6 @@ failed_if : (b : Bool) (x y : Hart) (f : Bool) → x.failed ≡ f → y.failed �
 failed_if true x y f e g = e
 failed_if false x y f e g = g
 
-shared_same : (st : Option Store) (o : Hart) → (shared st o).failed ≡ o.failed
-shared_same st o = failed_if (is_on o) (record o { state = record o.state { room = shared_room st o.state.room } }) o o.failed refl refl
-
 -- hart 0 and the others apart
 leader_of : (leader : Hart) (others : List Hart) → AreGood (leader ∷ others) → leader.failed ≡ false
 leader_of leader others good = good 0 leader refl
@@ -72,12 +70,12 @@ module _ (hs : Harts) (act : Act) (m : Move) where
   goes_good : AreGood (all_of (leader_goes hs act m)) → AreGood (all_of hs)
   goes_good good =
       both_of hs.leader hs.others (leader_of (executes hs.leader act m) (map (shared m.store) hs.others) good)
-      (good_map (shared m.store) (shared_same m.store) hs.others (others_of (executes hs.leader act m) (map (shared m.store) hs.others) good))
+      (good_map (shared m.store) (shared_failed m.store) hs.others (others_of (executes hs.leader act m) (map (shared m.store) hs.others) good))
 
   commits_good : AreGood (all_of (leader_commits hs act m)) → AreGood (all_of hs)
   commits_good good =
       both_of hs.leader hs.others (leader_of (executes hs.leader act m) (map freed (map (shared m.store) hs.others)) good)
-      (good_map (shared m.store) (shared_same m.store) hs.others
+      (good_map (shared m.store) (shared_failed m.store) hs.others
       (good_map freed (λ o. refl) (map (shared m.store) hs.others) (others_of (executes hs.leader act m) (map freed (map (shared m.store) hs.others)) good)))
 
   waits_good : AreGood (all_of (leader_waits hs)) → AreGood (all_of hs)
@@ -99,7 +97,7 @@ module _ (hs : Harts) (k : ℕ) (o : Hart) (there : slice_get hs.others k ≡ So
 
   other_goes_good : AreGood (all_of (other_goes hs k o m)) → AreGood (all_of hs)
   other_goes_good good =
-      let shares = shared_same m.store in
+      let shares = shared_failed m.store in
       let others = set (map (shared m.store) hs.others) k (executes o Skip m) in
       both_of hs.leader hs.others (sym (shares hs.leader) ∙ leader_of (shared m.store hs.leader) others good)
       (good_map (shared m.store) shares hs.others

@@ -2,7 +2,7 @@
 
 ghost use Rattle.std.specs.Prelude.{◌≡◌, ◌≤◌, ◌<◌, All, IsTrue, MatchResult, vec_len};
 ghost use Rattle.mv_bindings.specs.Acts.{IsOfWord};
-ghost use Rattle.mv_machine.specs.Actions.{fits};
+ghost use Rattle.mv_machine.specs.Actions.{fits_rows};
 ghost use Rattle.mv_harts_meant.specs.Runnable.{IsRunnable};
 ghost use Rattle.mv_harts_turns.specs.Runs.{outside, Broken};
 ghost use Rattle.mv_harts.specs.HartsRan.{HartsRan, TellsBytes};
@@ -33,7 +33,7 @@ pub fn run_harts<I: Source, O: Sink>(
     requires numbered { All (λ hart. hart < vec_len sources.old) schedule.now }
     requires told { All (λ source. TellsBytes (I.left source)) sources.old.items }
     requires sound { IsRunnable built.now.program built.now.image }
-    requires fit { All (λ action. IsTrue (fits built.now.image.switches action)) actions.now }
+    requires fit { All (λ action. IsTrue (fits_rows built.now.image.switches action)) actions.now }
     ensures ran { let was = outside (λ s. I.left s) (λ k. O.written k) (λ s. I.faults s) (λ k. O.faults k) sources.old.items sinks.old.items (way oracle.old) in
         let is = outside (λ s. I.left s) (λ k. O.written k) (λ s. I.faults s) (λ k. O.faults k) sources.new.items sinks.new.items (way oracle.new) in
         MatchResult result (HartsRan built.now.program built.now.image actions.now (vec_len sources.old) schedule.now was is)

@@ -35,7 +35,7 @@ use Rattle.mv_ir_worlds.specs.Fit.{AreBindings, IsFunctionBound, IsPointerBound,
 use Rattle.mv_ir_worlds.specs.Laws.{BindingsAreTold}
 use Rattle.mv_ir_worlds.proofs.Combining.{combination_in, in_combination}
 use Rattle.mv_meaning_numbering.specs.Laws.{IsTypedEvent}
-use Rattle.mv_patch.specs.Orders.{binding_count, bindings_after, bound_now, bound_to_target, first_bindings, is_known_order, is_ordered, is_pointer_ordered, next_binding, next_pointer, ordered_rows, pointed_now, pointer_bindings, pointer_word, word_in}
+use Rattle.mv_patch.specs.Orders.{binding_count, bindings_ordered, bound_now, bound_to_target, first_bindings, is_known_order, is_ordered, is_pointer_ordered, next_binding, next_pointer, ordered_rows, pointed_now, pointer_bindings, pointer_word, word_in}
 use Rattle.mv_patch.specs.Plans.{plan_of}
 use Rattle.mv_machine.specs.Runs.{State, Stop, Going, Exit, Trap, Fault, Request, Exits, Reads, Writes, Traps, Plans, Polls, Unknown, request_of, argument, answered, stopped, live_frames, refused, carried_out, ordered, planned, with_value, act, acted, polled, environment_call, fetched_step, after, is_going, turn, runs_from, first}
 use Rattle.mv_harts_runs.specs.Harts.{first_of}
@@ -177,8 +177,8 @@ module _ (p : Program) (image : Fields) (tables : HasFunctions p image) where
               (made.0, made.1, inr (q, g.0, omega (arith, place, tables.count), g.1, made.2))
           by_case (inr h) = are.bound n b (ap (slice_get bs) place ∙ sym (get_drop (length image.functions) q bs) ∙ h) is
 
-      ordered_fits : AreBindings p (bindings_after image held code index bs)
-      unfolding bindings_after functions pointers
+      ordered_fits : AreBindings p (bindings_ordered image held code index bs)
+      unfolding bindings_ordered functions pointers
       ordered_fits = record {
         count = omega (arith, length-append functions pointers, functions_count, pointers_count, tables.count, tables.pointers);
         bound = λ n b e is. by_case n b is (in_either functions pointers n b e);
@@ -244,11 +244,11 @@ module _ (p : Program) (image : Fields) (tables : HasFunctions p image) where
       same = is.same;
       acts = all;
       bindings = are;
-      typed = bound_typed s.log s.bindings (bindings_after s.image held.held code index s.bindings) is.bindings are is.typed;
+      typed = bound_typed s.log s.bindings (bindings_ordered s.image held.held code index s.bindings) is.bindings are is.typed;
     }
       where
-        are : AreBindings p (bindings_after s.image held.held code index s.bindings)
-        are = subst (λ (f : Fields). AreBindings p (bindings_after f held.held code index s.bindings)) (sym is.same) (ordered_fits held.held code index s.bindings is.bindings)
+        are : AreBindings p (bindings_ordered s.image held.held code index s.bindings)
+        are = subst (λ (f : Fields). AreBindings p (bindings_ordered f held.held code index s.bindings)) (sym is.same) (ordered_fits held.held code index s.bindings is.bindings)
 
     act_bound : (a : Act) (later : List Act) → IsOwn a → All IsOwn later → IsBound (act a (record s { actions = later }))
     act_bound Skip later own all = refused_bound later 0 all

@@ -19,7 +19,7 @@ use Rattle.mv_ir_worlds.specs.Laws.{BindingsAreTold}
 use Rattle.std.proofs.lemmas.Option.{get_or_from_slice_get, slice_get_within}
 use Rattle.mv_meaning_numbering.specs.Laws.{IsTypedEvent, PointersAreLoggedTyped}
 use Rattle.mv_patch.specs.Orders.{values_of}
-use Rattle.mv_machine.specs.Actions.{fits}
+use Rattle.mv_machine.specs.Actions.{fits_rows}
 use Rattle.mv_refine_machine.specs.Stores.Laws.{RoomsAreWhole, TextsOfImages}
 use Rattle.mv_harts_runs.specs.Alone.{Fitting, Passes, alone}
 use Rattle.mv_harts_meant.specs.Runnable.{IsRunnable, is_act_of_word, fits_in}
@@ -62,7 +62,8 @@ own p (a ∷ acts) all =
 
 -- ---- the law
 
-module _ (formats : RulesAreTables) (told : BindingsAreTold) (logged : PointersAreLoggedTyped) (rooms : RoomsAreWhole) (texts : TextsOfImages) (p : Program) (image : Fields) (runs : IsRunnable p image) (bytes : ℕ → List ℕ) (are : AreBytes bytes) where
+module _ (formats : RulesAreTables) (told : BindingsAreTold) (logged : PointersAreLoggedTyped) (rooms : RoomsAreWhole) (texts : TextsOfImages)
+    (p : Program) (image : Fields) (runs : IsRunnable p image) (bytes : ℕ → List ℕ) (are : AreBytes bytes) where
   adopted : (h n : ℕ) (acts : List Act) → All (Passes (fits_in p) 0) acts → Passes (fits_in p) (suc h) (Adopt (alone 0 image (inputs_of bytes 0) acts n).bindings)
   adopted h n acts all =
       let other : not (nat_eq (suc h) 0) ≡ true = ap not (ne_eqb (suc h) 0 (λ e. omega (arith, e))) in
@@ -93,15 +94,15 @@ module _ (formats : RulesAreTables) (told : BindingsAreTold) (logged : PointersA
 -- ---- actions of the operator
 
 module _ (p : Program) (image : Fields) (runs : IsRunnable p image) where
-  passes : (a : Action) → IsOfWord a → IsTrue (fits image.switches a) → Passes (fits_in p) 0 (act_of a)
+  passes : (a : Action) → IsOfWord a → IsTrue (fits_rows image.switches a) → Passes (fits_in p) 0 (act_of a)
   passes action.Skip word fit = refl
   passes (action.Flip switch value) word fit =
       let small : nat_lt value (2 ^ 32) ≡ true = grind (arith, word) in
       and_from (source.fits p (action.Flip switch value)) (nat_lt value (2 ^ 32)) (sym (runs.fits (action.Flip switch value)) ∙ fit) small
 
-  pub all_pass : (actions : List Action) → All IsOfWord actions → All (λ a. IsTrue (fits image.switches a)) actions → All (Passes (fits_in p) 0) (map act_of actions)
+  pub all_pass : (actions : List Action) → All IsOfWord actions → All (λ a. IsTrue (fits_rows image.switches a)) actions → All (Passes (fits_in p) 0) (map act_of actions)
   all_pass [] words fit = All-nil (Passes (fits_in p) 0)
   all_pass (a ∷ actions) words fit =
       All-cons (Passes (fits_in p) 0) (act_of a) (map act_of actions)
-      (passes a (All-head IsOfWord a actions words) (All-head (λ a. IsTrue (fits image.switches a)) a actions fit))
-      (all_pass actions (All-tail IsOfWord a actions words) (All-tail (λ a. IsTrue (fits image.switches a)) a actions fit))
+      (passes a (All-head IsOfWord a actions words) (All-head (λ a. IsTrue (fits_rows image.switches a)) a actions fit))
+      (all_pass actions (All-tail IsOfWord a actions words) (All-tail (λ a. IsTrue (fits_rows image.switches a)) a actions fit))

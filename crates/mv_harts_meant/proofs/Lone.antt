@@ -11,8 +11,9 @@ use Rattle.mv_machine.specs.Commits.{fetched_instr}
 use Rattle.mv_refine_machine.specs.Runs.Behaves.{Behaves, IsTextSettled}
 use Rattle.mv_refine_machine.specs.Stores.Between.{IsBetween}
 use Rattle.mv_refine_machine.specs.Stores.Laws.{RoomsAreWhole}
+use Rattle.mv_refine_machine.specs.Commits.Watch.{texts_of}
 use Rattle.mv_harts_runs.specs.Harts.{Elsewhere, place}
-use Rattle.mv_harts_runs.specs.Alone.{texts_of, alone, BehavesAlone}
+use Rattle.mv_harts_runs.specs.Alone.{alone, BehavesAlone}
 use Rattle.mv_harts_runs.proofs.Acts.{IsNoCall, ecall_or, place_elsewhere}
 
 -- what stands nowhere else than at an environment call

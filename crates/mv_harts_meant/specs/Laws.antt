@@ -5,7 +5,7 @@ use Rattle.mv_ast.specs.Counts.{instructions_per_work}
 use Rattle.mv_bindings.specs.declared.action.Action.{Action}
 use Rattle.mv_bindings.specs.Acts.{Act, IsOfWord, act_of}
 use Rattle.mv_image.specs.Spelling.{Fields}
-use Rattle.mv_machine.specs.Actions.{fits}
+use Rattle.mv_machine.specs.Actions.{fits_rows}
 use Rattle.mv_machine.specs.Runs.{bytes_to_come}
 use Rattle.mv_meaning.specs.Meaning.{hart_mean}
 use Rattle.mv_refine_machine.specs.Runs.Behaves.{IsWithin, EndsRight, HasDone}
@@ -20,14 +20,14 @@ AreBytes bytes = (h : ℕ) → All (λ b. b < 2 ^ 8) (bytes h)
 abbrev pub inputs_of : (ℕ → List ℕ) → ℕ → List (Option ℕ)
 inputs_of bytes h = bytes_to_come (bytes h)
 
--- The run of each hart alone is right for all acts that fit it, and what hart 0 is bound to at any time fits the others.
+-- The run of each hart alone is right for all acts that fit it, and what hart 0 is bound to at any time fits_rows the others.
 abbrev pub FittingLaw : Type 0
 FittingLaw = (p : Program) (image : Fields) → IsRunnable p image → (bytes : ℕ → List ℕ) → AreBytes bytes → Fitting image (inputs_of bytes) (Passes (fits_in p))
 
 -- Actions of the operator that fit the image, and whose values are words, may be taken by the polls of hart 0.
 abbrev pub ActionsPass : Type 0
 ActionsPass =
-    (p : Program) (image : Fields) → IsRunnable p image → (actions : List Action) → All IsOfWord actions → All (λ action. IsTrue (fits image.switches action)) actions →
+    (p : Program) (image : Fields) → IsRunnable p image → (actions : List Action) → All IsOfWord actions → All (λ action. IsTrue (fits_rows image.switches action)) actions →
     All (Passes (fits_in p) 0) (map act_of actions)
 
 -- A hart, on an input, has done what the program means in it with what its polls took: no more than that at the bound of its instructions; it has ended only

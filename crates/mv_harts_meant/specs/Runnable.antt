@@ -32,7 +32,7 @@ pub record IsRunnable (p : Program) (image : Fields) : Type 0 where
   pub behaves : BehavesAlways p image
   pub rules : Rules image
   pub tables : HasFunctions p image
-  pub fits : (action : Action) → machine.fits image.switches action ≡ source.fits p action
+  pub fits : (action : Action) → machine.fits_rows image.switches action ≡ source.fits p action
 
 -- the value of an act, if it has one, is a word
 abbrev pub is_act_of_word : Act → Bool

@@ -14,13 +14,15 @@ use Rattle.mv_rv32.specs.declared.hart.Stepped.TheVariants as stepped
 use Rattle.mv_machine.specs.declared.machine.Stopped.{Stopped}
 use Rattle.mv_machine.specs.Runs.{State, Going, choices_at, fetched_step, turn, is_going}
 use Rattle.mv_machine.specs.Commits.{fetched_instr, after_instr}
+use Rattle.mv_machine.proofs.Turns.{turn_by}
 use Rattle.mv_harts_runs.specs.Harts.{Hart, Store, shared, told, handed, Move, move}
-use Rattle.mv_harts_runs.proofs.Acts.{IsNoCall, ecall_or, calls_where, turn_by, step_acts, instr_acts, place_elsewhere}
+use Rattle.mv_harts_runs.proofs.Acts.{calls_where, IsNoCall, ecall_or, step_acts, instr_acts, place_elsewhere}
+use Rattle.mv_harts_runs.proofs.Rooms.{shared_elsewhere}
 use Rattle.mv_harts_one.specs.declared.seat.Seat.{Seat}
 use Rattle.mv_harts_one.specs.Seats.{stop_of, has_failed, IsHalt, IsBefore, mode_of, Sits}
 use Rattle.mv_harts_one.specs.Executions.{is_into_text, HasAdvanced}
 use Rattle.mv_harts_one.proofs.Words.{only_word}
-use Rattle.mv_harts_one.proofs.Sitting.{sat, none_failed, shared_same, shared_none, shared_outside}
+use Rattle.mv_harts_one.proofs.Sitting.{sat, none_failed, shared_same, shared_none}
 
 -- nothing comes to nothing, whether a run goes on or not
 none_stays : (going : Bool) (under : Option (List Binding)) → (if going then under else under) ≡ under
@@ -122,4 +124,4 @@ stands number was is bytes o hart memory engine same mode waited stop instructio
 
 pub unshared : (st : Option Store) → is_into_text st ≡ false → (o : Hart) → shared st o ≡ o
 unshared None e o = shared_same o None (shared_none o.state.room)
-unshared (Some st) e o = shared_same o (Some st) (shared_outside st o.state.room e)
+unshared (Some st) e o = shared_same o (Some st) (shared_elsewhere st o.state.room e)

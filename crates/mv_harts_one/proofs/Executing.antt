@@ -1,6 +1,7 @@
 -- What one instruction of an engine is to the hart that its seat is.
 use Rattle.std.proofs.Common.{ℕ, ◌≡◌, ◌⊎◌, inl, inr, ◌+◌, ◌%◌, ◌<◌, Bool, true, false, ◌&&◌, ◌||◌, not, cond, nat_eq, List, [], ◌∷◌, ◌++◌, length, Option, Some, None, option_map, refl, sym, ap, ap₂, ◌∙◌, subst, arith, if◌then◌else◌}
 use Rattle.std.proofs.lemmas.Option.{none-some, same_Some}
+use Rattle.std.proofs.Math.Bool.{and-false}
 use Rattle.mv_bindings.specs.declared.action.Action.{Action}
 use Rattle.mv_bindings.specs.declared.binding.Binding.{Binding}
 use Rattle.mv_bindings.specs.declared.binding.Event.{Event}
@@ -20,14 +21,15 @@ use Rattle.mv_machine.specs.declared.machine.Stopped.TheVariants as answer
 use Rattle.mv_machine.specs.Runs.{State, Stop, Going, Exit, Trap, Fault, Request, Reads, Writes, request_of, environment_call, bytes_to_come, choices_at, fetched_step, turn, is_going}
 use Rattle.mv_machine.specs.Commits.{fetched_instr, is_some_pair, opens, after_instr, commit_after}
 use Rattle.mv_machine.specs.Moves.{Seen, seen, shown, Moves, Outcomes, Called, Wanting, Turns, input_failed, output_failed}
+use Rattle.mv_machine.proofs.Turns.{turn_by}
 use Rattle.mv_harts_runs.specs.Harts.{Hart, Elsewhere, place_by, place_of, place, reads_or_writes, outside_of, is_outside, handed, Move, move}
-use Rattle.mv_harts_runs.proofs.Acts.{calls_where, where_calls, turn_by}
-use Rattle.mv_harts_runs.proofs.Calls.{no_pairs}
+use Rattle.mv_harts_runs.proofs.Acts.{calls_where, where_calls}
 use Rattle.mv_harts_one.specs.declared.seat.Seat.{Seat}
 use Rattle.mv_harts_one.specs.Seats.{stop_of, has_failed, IsHalt, IsBefore, Sits, is_under}
 use Rattle.mv_harts_one.specs.Executions.{is_fence_i, counted, wants_memory, IsFaultOf, HasExecuted, HasFailed}
 use Rattle.mv_harts_one.proofs.Words.{fetched_word}
 use Rattle.mv_harts_one.proofs.Sitting.{sat, sat_as, none_failed, fetches, shown_by}
+use Rattle.mv_harts_runs.proofs.Calls.{no_pairs}
 
 -- ---- the oracle
 
@@ -43,10 +45,6 @@ pub and_true : (b : Bool) → b ≡ (b && true)
 and_true true = refl
 and_true false = refl
 
-and_false : (b : Bool) → false ≡ (b && false)
-and_false true = refl
-and_false false = refl
-
 begun : (b : Bool) (bs : List Binding) (u : Option (List Binding)) → is_under (cond b (Some bs) u) ≡ (b || (is_under u && true))
 begun true bs u = refl
 begun false bs u = and_true (is_under u)
@@ -56,7 +54,7 @@ Remains i s u b = is_under (after_instr s i u) ≡ (b || (is_under u && not (is_
 
 remains : (i : Option Instr) (s : State) (u : Option (List Binding)) (b : Bool) → (i ≡ Some Ecall → opens s ≡ b) → ((i ≡ Some Ecall → ⊥) → b ≡ false) → Remains i s u b
 remains (Some Ecall) s u b called other = ap (λ c. is_under (cond c (Some s.bindings) u)) (called refl) ∙ begun b s.bindings u
-remains (Some FenceI) s u b called other = and_false (is_under u) ∙ sym (ap (λ c. c || (is_under u && false)) (other (λ e. cc)))
+remains (Some FenceI) s u b called other = sym (and-false (is_under u)) ∙ sym (ap (λ c. c || (is_under u && false)) (other (λ e. cc)))
 remains i s u b called other = and_true (is_under u) ∙ sym (ap (λ c. c || (is_under u && true)) (other (λ e. cc)))
 
 -- ---- the instruction at pc, where a fetch has one choice
@@ -180,7 +178,10 @@ module _ (number : ℕ) (was : Seat) (o : Hart) (act : Action) (bytes : List ℕ
         (where_calls o.state 0 step, ap (λ (t : State). request_of (reg t.regs 17)) s ∙ c.1)
 
     module _ (r : Option Stopped) (stop_is : stop_of r ≡ Going) (ill : has_failed r ≡ true) (halts : IsHalt r) (counts : counted r ≡ 0) (A B : Type 0) (fault : IsFaultOf r A B) where
-      failed : (left : Option (List ℕ)) (pick : ℕ) (request : Request) → ((s : State) → fetched_instr s 0 ≡ Some Ecall → request_of (reg s.regs 17) ≡ request → IsBefore r s) → pick ≡ 0 → y left ≡ x written → Called (x written) pick request → reads_or_writes request ≡ true → place_by request (is_known_order o.state.image (reg o.state.regs 10) (reg o.state.regs 11)) (nat_eq (reg o.state.regs 26) 0) ≡ Elsewhere
+      failed : (left : Option (List ℕ)) (pick : ℕ) (request : Request)
+          → ((s : State) → fetched_instr s 0 ≡ Some Ecall → request_of (reg s.regs 17) ≡ request → IsBefore r s) → pick ≡ 0 → y left ≡ x written
+          → Called (x written) pick request → reads_or_writes request ≡ true
+          → place_by request (is_known_order o.state.image (reg o.state.regs 10) (reg o.state.regs 11)) (nat_eq (reg o.state.regs 26) 0) ≡ Elsewhere
           → HasFailed number o m (behind e r) (is_under before) (e.opened || stays) bytes left written written' A B
       unfolding move place is_outside
       failed left pick request stands zero q c outside at =

@@ -20,6 +20,7 @@ use Rattle.mv_machine.specs.Runs.{State, Going, is_going, request_of, bytes_to_c
 use Rattle.mv_machine.specs.Commits.{fetched_instr}
 use Rattle.mv_machine.specs.Moves.{seen, shown}
 use Rattle.mv_harts_runs.specs.Harts.{Hart, is_on, Place, place_by, place_of, place, Store, store_of, told, is_in_text, with_store, shared_room, shared}
+use Rattle.mv_harts_runs.proofs.Rooms.{shared_elsewhere}
 use Rattle.mv_harts_one.specs.declared.seat.Mode.TheVariants as mode
 use Rattle.mv_harts_one.specs.declared.seat.Seat.{Seat}
 use Rattle.mv_harts_one.specs.declared.store.Store.{Store as SeenStore}
@@ -142,10 +143,6 @@ pub shared_none : (room : Room) → shared_room None room ≡ room
 unfolding shared_room
 shared_none room = refl
 
-pub shared_outside : (st : Store) (room : Room) → is_in_text st.address ≡ false → shared_room (Some st) room ≡ room
-unfolding shared_room
-shared_outside st room e = ap (λ b. if b then with_store room st else room) e
-
 shared_inside : (st : Store) (room : Room) → is_in_text st.address ≡ true → shared_room (Some st) room ≡ with_store room st
 unfolding shared_room
 shared_inside st room e = ap (λ b. if b then with_store room st else room) e
@@ -158,7 +155,7 @@ module _ (number : ℕ) (was : Seat) (bytes : List ℕ) (o : Hart) (sits : Sits 
 
   pub takes_outside : (st : SeenStore) → store ≡ Some st → is_in_text st.address ≡ false → Sits number was bytes (shared (option_map store_as store) o)
   takes_outside st e out =
-      let q : shared (option_map store_as store) o ≡ o = ap (λ s. shared (option_map store_as s) o) e ∙ shared_same o (Some (store_as st)) (shared_outside (store_as st) o.state.room out) in
+      let q : shared (option_map store_as store) o ≡ o = ap (λ s. shared (option_map store_as s) o) e ∙ shared_same o (Some (store_as st)) (shared_elsewhere (store_as st) o.state.room out) in
       subst (λ x. Sits number was bytes x) (sym q) sits
 
   -- the seat differs by its memory alone

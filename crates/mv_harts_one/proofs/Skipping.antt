@@ -1,5 +1,5 @@
 -- What a poll that takes nothing is to the hart that its seat is.
-use Rattle.std.proofs.Common.{ℕ, ◌≡◌, ◌+◌, false, ◌&&◌, not, List, [], ◌∷◌, ◌++◌, append-nil, Option, Some, None, option_map, refl, sym, ap, ◌∙◌}
+use Rattle.std.proofs.Common.{ℕ, ◌≡◌, ◌+◌, false, ◌&&◌, not, List, [], ◌∷◌, ◌++◌, append-nil, Option, Some, None, refl, sym, ap, ◌∙◌}
 use Rattle.mv_bindings.specs.declared.binding.Binding.{Binding}
 use Rattle.mv_bindings.specs.Acts.{Skip}
 use Rattle.mv_isa.specs.Encoding.{decode}
@@ -10,19 +10,16 @@ use Rattle.mv_machine.specs.declared.machine.Stopped.{Stopped}
 use Rattle.mv_machine.specs.Runs.{State, Going, answered, refused, bytes_to_come, choices_at, turn}
 use Rattle.mv_machine.specs.Commits.{is_some_pair}
 use Rattle.mv_machine.specs.Moves.{seen, shown, Does}
+use Rattle.mv_machine.proofs.Moved.{nothing_written}
 use Rattle.mv_harts_runs.specs.Harts.{Hart, AtPoll, place, handed, Move, move}
 use Rattle.mv_harts_runs.proofs.Adopting.{at_call, skipping}
-use Rattle.mv_harts_runs.proofs.Calls.{no_pairs}
 use Rattle.mv_harts_one.specs.declared.seat.Seat.{Seat}
 use Rattle.mv_harts_one.specs.Seats.{stop_of, has_failed, Sits, is_under}
 use Rattle.mv_harts_one.specs.Executions.{is_fence_i, HasExecuted}
 use Rattle.mv_harts_one.proofs.Words.{fetched_word}
 use Rattle.mv_harts_one.proofs.Sitting.{sat, sat_as, none_failed, fetches, shown_by}
 use Rattle.mv_harts_one.proofs.Executing.{and_true, under_is}
-
-written_nothing : (written : Option (List ℕ)) → written ≡ option_map (λ before. before ++ []) written
-written_nothing None = refl
-written_nothing (Some before) = ap Some (sym (append-nil before))
+use Rattle.mv_harts_runs.proofs.Calls.{no_pairs}
 
 module _ (number : ℕ) (was : Seat) (bytes : List ℕ) (o : Hart) (before : Option (List Binding)) (sits : Sits number was bytes o) (on : was.stop ≡ None) (one : choices_at o.state ≡ 1) (polls : place o.state 0 ≡ AtPoll)
     (e : Engine) (same : e.number ≡ was.engine.number) (does : Does (λ s. refused s 0) was.engine [] e [] Going []) where
@@ -77,5 +74,5 @@ module _ (number : ℕ) (was : Seat) (bytes : List ℕ) (o : Hart) (before : Opt
     under = stays_under;
     more = [];
     output = ap (λ (s : State). s.output) state_is ∙ sym (append-nil o.state.output);
-    wrote = written_nothing written;
+    wrote = nothing_written written;
   }

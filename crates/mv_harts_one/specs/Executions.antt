@@ -66,7 +66,9 @@ pub record HasAdvanced (number : ℕ) (o : Hart) (act : Act) (m : Move) (seat : 
   pub output : m.state.output ≡ o.state.output
 
 -- One instruction, which was handed an act. The answer is whether the commit of hart 0 is under way behind it, as it was before or not; the oracle was asked once.
-abbrev pub Did : {E : Type 0} → Result Bool E → (number : ℕ) (o : Hart) (act : Act) (m : Move) (seat : Seat) (was : Bool) (bytes : List ℕ) (left written written' : Option (List ℕ)) (way way' : Option Way) (input_rose output_rose : Type 0) → Type 0
+abbrev pub Did : {E : Type 0} → Result Bool E
+    → (number : ℕ) (o : Hart) (act : Act) (m : Move) (seat : Seat) (was : Bool) (bytes : List ℕ) (left written written' : Option (List ℕ))
+    (way way' : Option Way) (input_rose output_rose : Type 0) → Type 0
 Did (Ok now) number o act m seat was bytes left written written' way way' input_rose output_rose =
     (way' ≡ option_map (λ w. way_after w 1) way)
     × (HasExecuted number o act m seat now left written written' ⊎ HasFailed number o m seat was now bytes left written written' input_rose output_rose)

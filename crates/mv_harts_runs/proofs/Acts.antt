@@ -1,21 +1,23 @@
 -- An instruction with other acts to come.
-use Rattle.std.proofs.Common.{◌≡◌, ◌⊎◌, inl, inr, ℕ, ◌%◌, ◌^◌, ◌-◌, Bool, true, false, ◌&&◌, cond, nat_eq, if◌then◌else◌, List, [], ◌∷◌, length, Option, Some, None, refl, sym, ap, ap₂, ◌∙◌, subst, arith}
+use Rattle.std.proofs.Common.{◌≡◌, ◌⊎◌, inl, inr, ℕ, ◌%◌, ◌^◌, ◌-◌, Bool, true, false, ◌&&◌, cond, nat_eq, if◌then◌else◌, List, [], ◌∷◌, length, Option, Some, None, refl, sym, ap, ◌∙◌, subst, arith}
 use Rattle.std.specs.Prelude.{option_and_then, slice_get, if◌then◌else◌}
 use Rattle.mv_bindings.specs.declared.binding.Binding.{Binding}
 use Rattle.mv_isa.specs.declared.instr.Instr.{Instr}
 use Rattle.mv_isa.specs.declared.instr.Instr.TheVariants.{Lui, Auipc, Jal, Jalr, Beq, Bne, Blt, Bge, Bltu, Bgeu, Lb, Lh, Lw, Lbu, Lhu, Sb, Sh, Sw, Addi, Slti, Sltiu, Xori, Ori, Andi, Slli, Srli, Srai, Add, Sub, Sll, Slt, Sltu, Xor, Srl, Sra, Or, And, Mul, Mulh, Mulhsu, Mulhu, Div, Divu, Rem, Remu, Fence, FenceI, Ebreak, Ecall}
 use Rattle.mv_isa.specs.Encoding.{decode}
-use Rattle.mv_isa.specs.Execution.{Outcome, Goes, Calls, Faults, reg, decoded, execute, step}
+use Rattle.mv_isa.specs.Execution.{Outcome, Goes, Calls, Faults, reg}
 use Rattle.mv_isa.specs.declared.instr.Cause.TheVariants as cause
 use Rattle.mv_fetch.specs.Held.{Room, choices}
-use Rattle.mv_rv32.specs.Stepping.{access, picked_step}
+use Rattle.mv_rv32.specs.Stepping.{picked_step}
 use Rattle.mv_patch.specs.Orders.{is_known_order}
 use Rattle.mv_patch.specs.Plans.{plan_between}
 use Rattle.mv_bindings.specs.Acts.{Act, Skip, Flip, Adopt}
-use Rattle.mv_machine.specs.Runs.{State, Stop, Going, Fault, Request, Exits, Reads, Writes, Traps, Plans, Polls, Unknown, request_of, argument, answered, stopped, live_frames, refused, ordered, planned, act, acted, polled, environment_call, choices_at, fetched_step, after, is_going, turn}
+use Rattle.mv_machine.specs.Runs.{State, Going, Fault, Request, Exits, Reads, Writes, Traps, Plans, Polls, Unknown, request_of, argument, answered, stopped, live_frames, refused, ordered, planned, act, acted, polled, environment_call, choices_at, fetched_step, after, is_going, turn}
 use Rattle.mv_machine.specs.Commits.{fetched_instr, is_some_pair, after_instr, commit_after}
+use Rattle.mv_machine.proofs.Turns.{turn_by}
 use Rattle.mv_harts_runs.specs.Harts.{Place, AtOrder, AtPoll, Elsewhere, place_by, place_of, called_place, place, reads_or_writes, outside_of, is_outside, handed, Store, store_of, told, move}
 use Rattle.mv_harts_runs.proofs.Steps.{FetchedLed, fetched_led}
+pub use Rattle.mv_refine_machine.proofs.OfRuns.Stopping.{calls_where}
 
 -- ---- an environment call, or none
 
@@ -79,17 +81,7 @@ ecall_or (Some (Fence)) = inr (record { no = λ e. cc; place = λ s. refl; after
 ecall_or (Some (FenceI)) = inr (record { no = λ e. cc; place = λ s. refl; after = λ s t u. refl; calm = λ s. refl; stays = λ s u old h. absurd (cc); keeps = λ regs st e s u. absurd (cc) })
 ecall_or (Some (Ebreak)) = inr (record { no = λ e. cc; place = λ s. refl; after = λ s t u. refl; calm = λ s. refl; stays = λ s u old h. h; keeps = λ regs st e s u. refl })
 
--- where an environment call is fetched, the step calls the environment
-word_calls : (s : State) (word : Option ℕ) → option_and_then decode word ≡ Some Ecall → step access word s.regs s.pc s.room ≡ Calls
-unfolding execute
-word_calls s None e = absurd (cc)
-word_calls s (Some w) e = ap (λ d. decoded access d s.regs s.pc s.room) e
-
-pub calls_where : (s : State) (pick : ℕ) → fetched_instr s pick ≡ Some Ecall → fetched_step s pick ≡ Calls
-unfolding fetched_step picked_step choices_at
-calls_where s pick e = word_calls s (slice_get (choices s.room.held s.pc) (pick % choices_at s)) e
-
--- and nowhere else
+-- a step calls the environment nowhere else than where an environment call is fetched
 led_no_call : (i : Option Instr) (regs : List ℕ) (m : Room) → FetchedLed i regs m Calls → i ≡ Some Ecall
 led_no_call None regs m h = absurd h
 led_no_call (Some i) regs m h = ap Some h
@@ -109,7 +101,9 @@ abbrev pub with_acts : State → List Act → State
 with_acts s acts = record s { actions = acts }
 
 plans_acts : (s : State) (a : Act) (more : List Act) (code index : ℕ) (known idle leads : Bool)
-    → (if known then (if leads && idle then ordered (with_acts s (coming (place_by Plans known idle) a more)) code index else refused (with_acts s (coming (place_by Plans known idle) a more)) (2 ^ 32 - 1)) else stopped (with_acts s (coming (place_by Plans known idle) a more)) (Fault cause.Call))
+    → (if known then (if leads && idle then ordered (with_acts s (coming (place_by Plans known idle) a more)) code index
+    else refused (with_acts s (coming (place_by Plans known idle) a more)) (2 ^ 32 - 1))
+    else stopped (with_acts s (coming (place_by Plans known idle) a more)) (Fault cause.Call))
     ≡ with_acts (if known then (if leads && idle then ordered (handed s a) code index else refused (handed s a) (2 ^ 32 - 1)) else stopped (handed s a) (Fault cause.Call)) more
 unfolding answered
 plans_acts s a more code index true true true = refl
@@ -146,10 +140,6 @@ call_acts Unknown s a more = refl
 
 -- ---- one instruction
 
-pub turn_by : (s : State) (pick : ℕ) (outcome : Outcome Room) → s.stop ≡ Going → fetched_step s pick ≡ outcome → turn s pick ≡ after outcome s
-unfolding turn
-turn_by s pick outcome going e = ap₂ (λ (stop : Stop) (o : Outcome Room). if is_going stop then after o s else s) going e
-
 pub step_acts : (s : State) (acts : List Act) (pick : ℕ) → fetched_step (with_acts s acts) pick ≡ fetched_step s pick
 unfolding fetched_step choices_at
 step_acts s acts pick = refl
@@ -171,7 +161,9 @@ module _ (s : State) (a : Act) (more : List Act) (pick : ℕ) (going : s.stop �
   turn_acts = by_call (ecall_or (fetched_instr s pick))
     where
       no_call : IsNoCall (fetched_instr s pick) → (o : Outcome Room) → fetched_step s pick ≡ o → turn (with_acts s more) pick ≡ with_acts (turn (handed s a) pick) more
-      no_call q (Goes regs pc room) e = turn_by (with_acts s more) pick (Goes regs pc room) going (step_acts s more pick ∙ e) ∙ ap (λ (t : State). with_acts t more) (sym (turn_by (handed s a) pick (Goes regs pc room) going (step_acts s (a ∷ []) pick ∙ e)))
+      no_call q (Goes regs pc room) e =
+          turn_by (with_acts s more) pick (Goes regs pc room) going (step_acts s more pick ∙ e)
+          ∙ ap (λ (t : State). with_acts t more) (sym (turn_by (handed s a) pick (Goes regs pc room) going (step_acts s (a ∷ []) pick ∙ e)))
       no_call q Calls e = absurd (q.no (where_calls s pick e))
       no_call q (Faults why) e = turn_by (with_acts s more) pick (Faults why) going (step_acts s more pick ∙ e) ∙ ap (λ (t : State). with_acts t more) (sym (turn_by (handed s a) pick (Faults why) going (step_acts s (a ∷ []) pick ∙ e)))
 

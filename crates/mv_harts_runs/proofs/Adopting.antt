@@ -1,7 +1,8 @@
 -- A hart that adopts a commit whose words it has already is as one that gets them at once.
-use Rattle.std.proofs.Common.{◌≡◌, ◌⊎◌, inl, inr, ℕ, zero, suc, ◌%◌, ◌<◌, ◌≤◌, Bool, true, false, cond, eqb, ltb, nat_eq, if◌then◌else◌, List, [], ◌∷◌, append-nil, length, slice_get, Some, None, refl, sym, ap, ◌∙◌, arith}
+use Rattle.std.proofs.Common.{◌≡◌, ◌⊎◌, inl, inr, ℕ, ◌%◌, ◌<◌, ◌≤◌, Bool, true, false, cond, eqb, ltb, nat_eq, if◌then◌else◌, List, [], ◌∷◌, append-nil, length, slice_get, Some, refl, sym, ap, ◌∙◌, arith}
 use Rattle.std.specs.Prelude.{option_and_then}
 use Rattle.std.proofs.lemmas.Bool.{cases_lt}
+use Rattle.std.proofs.lemmas.Option.{slice_get_past}
 use Rattle.mv_num.proofs.Lists.{there_at}
 use Rattle.mv_isa.specs.declared.instr.Instr.TheVariants.{Ecall}
 use Rattle.mv_isa.specs.Encoding.{decode}
@@ -12,15 +13,18 @@ use Rattle.mv_patch.specs.Pairs.{pairs_between}
 use Rattle.mv_patch.specs.Stores.{stored_all}
 use Rattle.mv_refine_machine.specs.Stores.Stores.{AreTexts}
 use Rattle.mv_refine_machine.specs.Stores.Between.{IsWhole, IsSettled, IsWordBetween, IsBetween, count_older}
+use Rattle.mv_refine_machine.proofs.OfStores.Places.{by_region}
+use Rattle.mv_refine_machine.proofs.OfRuns.Stopping.{calls_where}
 use Rattle.mv_patch.specs.Orders.{is_known_order}
 use Rattle.mv_patch.specs.Plans.{plan_between}
 use Rattle.mv_bindings.specs.Acts.{Skip, Adopt}
 use Rattle.mv_machine.specs.Runs.{State, Going, Request, Exits, Reads, Writes, Traps, Plans, Polls, Unknown, request_of, argument, answered, live_frames, acted, refused, polled, adopts, adopted, environment_call, choices_at, turn}
 use Rattle.mv_machine.specs.Commits.{fetched_instr}
+use Rattle.mv_machine.proofs.Turns.{turn_by}
 use Rattle.mv_harts_runs.specs.Harts.{AtPoll, place_by, place_of, called_place, place, handed}
 use Rattle.mv_harts_runs.specs.Alone.{Known}
 use Rattle.mv_harts_runs.proofs.Rooms.{older_same}
-use Rattle.mv_harts_runs.proofs.Acts.{IsNoCall, ecall_or, calls_where, turn_by, step_acts, place_at_call, place_elsewhere, with_acts}
+use Rattle.mv_harts_runs.proofs.Acts.{IsNoCall, ecall_or, step_acts, place_at_call, place_elsewhere, with_acts}
 
 -- ---- memory
 
@@ -58,11 +62,6 @@ word_plain : (o n : ℕ) (choices : List ℕ) → o ≡ n → IsWordBetween o n 
 word_plain o n choices e (inl q) = q
 word_plain o n choices e (inr q) = absurd (q.0 e)
 
-past : {A : Type 0} (xs : List A) (k : ℕ) → length xs ≤ k → slice_get xs k ≡ None
-past [] k le = refl
-past (x ∷ xs) zero le = absurd (omega (arith, le))
-past (x ∷ xs) (suc k) le = past xs k (omega (arith, le))
-
 plain_at : (old new : List ℕ) (h g : Held) (k : ℕ) → slice_get old k ≡ slice_get new k → IsBetween old new h → IsBetween old old g
     → choices_of (slice_get h.text k) (older_at h.older k) ≡ choices_of (slice_get g.text k) (older_at g.older k)
 plain_at old new h g k plain b c = ⊎_by (cases_lt k (length old))
@@ -74,15 +73,7 @@ plain_at old new h g k plain b c = ⊎_by (cases_lt k (length old))
     ⊎_by (inr le) =
         let x = b.text in
         let y = c.text in
-        ap (λ o. choices_of o (older_at h.older k)) (past h.text k (omega (arith, le, x))) ∙ sym (ap (λ o. choices_of o (older_at g.older k)) (past g.text k (omega (arith, le, y))))
-
-by_region : {R : Type 0} (P : R → Type 0) (b c d e f : Bool) (nowhere text globals stack plan : R) → P nowhere → P text → P globals → P stack → P plan → P (cond b nowhere (cond c text (cond d globals (cond e stack (cond f plan nowhere)))))
-by_region P true c d e f nowhere text globals stack plan pn pt pg ps pp = pn
-by_region P false true d e f nowhere text globals stack plan pn pt pg ps pp = pt
-by_region P false false true e f nowhere text globals stack plan pn pt pg ps pp = pg
-by_region P false false false true f nowhere text globals stack plan pn pt pg ps pp = ps
-by_region P false false false false true nowhere text globals stack plan pn pt pg ps pp = pp
-by_region P false false false false false nowhere text globals stack plan pn pt pg ps pp = pn
+        ap (λ o. choices_of o (older_at h.older k)) (slice_get_past h.text k (omega (arith, le, x))) ∙ sym (ap (λ o. choices_of o (older_at g.older k)) (slice_get_past g.text k (omega (arith, le, y))))
 
 pub same_choices : (old new : List ℕ) (h g : Held) (a : ℕ) → slice_get old (index_of a) ≡ slice_get new (index_of a) → IsBetween old new h → IsBetween old old g → choices h a ≡ choices g a
 unfolding choices region_of

@@ -2,9 +2,9 @@
 use Rattle.std.specs.Option.{option_map_or}
 use Rattle.std.proofs.Common.{◌≡◌, ℕ, ◌+◌, ◌%◌, ◌^◌, ◌-◌, ◌≤◌, Bool, true, false, ◌&&◌, not, cond, eqb, ltb, nat_eq, if◌then◌else◌, List, [], ◌∷◌, slice_get, Option, Some, None, option_map, unwrap_or, Err, refl, sym, ap, ◌∙◌, subst, arith}
 use Rattle.std.specs.Result.{result_ok}
-use Rattle.std.proofs.lemmas.Bool.{le-ltb, eq-eqb}
+use Rattle.std.proofs.lemmas.Bool.{le-ltb}
+use Rattle.std.proofs.Math.Bool.{and-false}
 use Rattle.mv_num.specs.Regions.{data_start}
-use Rattle.mv_bindings.specs.declared.binding.Binding.{Binding}
 use Rattle.mv_bindings.specs.OrderNumbers as orders
 use Rattle.mv_descriptors.specs.declared.rows.SwitchRow.{SwitchRow}
 use Rattle.mv_isa.specs.declared.instr.Cause.TheVariants as cause
@@ -14,13 +14,12 @@ use Rattle.mv_fetch.specs.declared.memory.AccessError.TheVariants.{Misaligned}
 use Rattle.mv_fetch.specs.Held.{Room, region_of, index_of, words_of, present, joined, with_word, found, store}
 use Rattle.mv_fetch.specs.Stores.{spared}
 use Rattle.mv_image.specs.Spelling.{Fields}
-use Rattle.mv_image.specs.Patched.{text_of}
 use Rattle.mv_rv32.specs.Stepping.{access, with_held}
-use Rattle.mv_patch.specs.Pairs.{differing, pair_of}
 use Rattle.mv_refine_machine.specs.Stores.Between.{IsWhole}
 use Rattle.mv_refine_machine.specs.Stores.Laws.{RoomsAreWhole}
-use Rattle.mv_patch.specs.Orders.{is_known_order, values_of}
-use Rattle.mv_patch.specs.Plans.{plan_between, plan_of}
+pub use Rattle.mv_refine_machine.proofs.OfCommits.Planned.{no_pairs}
+use Rattle.mv_patch.specs.Orders.{is_known_order}
+use Rattle.mv_patch.specs.Plans.{plan_of}
 use Rattle.mv_bindings.specs.Acts.{Act, Skip, Flip, Adopt}
 use Rattle.mv_machine.specs.Runs.{State, Fault, Request, Exits, Reads, Writes, Traps, Plans, Polls, Unknown, plan_area, stored_word, stored_words, with_plan, spelled_pairs, with_value, argument, answered, stopped, live_frames, refused, ordered, planned, act, acted, polled, environment_call}
 use Rattle.mv_harts_runs.specs.Harts.{AtOrder, AtPoll, place_by, handed, is_in_text}
@@ -38,7 +37,8 @@ pub kept_both : (r s t : Room) → Kept r s → Kept s t → Kept r t
 kept_both r s t g h = record { text = h.text ∙ g.text; older = h.older ∙ g.older; whole = λ w. h.whole (g.whole w) }
 
 -- what holds of each region but text holds of that of an address outside text
-by_region : {R : Type 0} (P : R → Type 0) (b c d e f : Bool) (nowhere text globals stack plan : R) → (not b && c) ≡ false → P nowhere → P globals → P stack → P plan → P (cond b nowhere (cond c text (cond d globals (cond e stack (cond f plan nowhere)))))
+by_region : {R : Type 0} (P : R → Type 0) (b c d e f : Bool) (nowhere text globals stack plan : R) → (not b && c) ≡ false → P nowhere → P globals
+    → P stack → P plan → P (cond b nowhere (cond c text (cond d globals (cond e stack (cond f plan nowhere)))))
 by_region P true c d e f nowhere text globals stack plan h pn pg ps pp = pn
 by_region P false true d e f nowhere text globals stack plan h pn pg ps pp = absurd (cc)
 by_region P false false true e f nowhere text globals stack plan h pn pg ps pp = pg
@@ -66,14 +66,10 @@ store_same r r' a n v outside e = by_test (eqb (a % n) 0) (slice_get (words_of r
     by_test true None q = absurd (cc)
     by_test false o q = absurd (cc)
 
-no_text : (b : Bool) → (b && false) ≡ false
-no_text true = refl
-no_text false = refl
-
 pub outside_text : (a : ℕ) → data_start ≤ a → is_in_text a ≡ false
 outside_text a le =
     let e : ltb a 0x0010_0000 ≡ false = le-ltb a 0x0010_0000 (omega (arith, le)) in
-    ap (λ b. not (ltb a 0x1000) && b) e ∙ no_text (not (ltb a 0x1000))
+    ap (λ b. not (ltb a 0x1000) && b) e ∙ and-false (not (ltb a 0x1000))
 
 -- no adopt
 abbrev pub IsOwn : Act → Type 0
@@ -184,13 +180,3 @@ call_binds Polls s a never skips = idle_binds (nat_eq (live_frames s) 0) s a (λ
     by_known true k false e = absurd (cc)
     by_known false k false e = absurd (cc)
 call_binds Unknown s a never skips = refl
-
--- there are no pairs between the texts of the same bindings
-none_differ : (at : ℕ) (text : List ℕ) → differing at text text ≡ []
-unfolding differing
-none_differ at [] = refl
-none_differ at (w ∷ text) =
-    ap (λ b. if b then differing (at + 4) text text else (pair_of at w ∷ differing (at + 4) text text)) (eq-eqb w w refl) ∙ none_differ (at + 4) text
-
-pub no_pairs : (image : Fields) (bs : List Binding) → plan_between image bs bs ≡ []
-no_pairs image bs = none_differ 0x1000 (text_of image (values_of bs))

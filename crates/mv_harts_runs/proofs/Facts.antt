@@ -1,22 +1,21 @@
 -- What is known of a hart whose run alone is right.
-use Rattle.std.proofs.Common.{◌≡◌, ℕ, ◌<◌, ◌≤◌, List, [], ◌∷◌, ◌++◌, append-nil, length, replicate, slice_get, Option, Some, None, refl, sym, ap, ap₂, ◌∙◌, subst, arith}
+use Rattle.std.proofs.Common.{◌≡◌, ℕ, List, [], ◌∷◌, ◌++◌, append-nil, length, slice_get, Option, Some, None, refl, sym, ap, ap₂, ◌∙◌, subst}
 use Rattle.std.specs.List.{All}
 use Rattle.std.specs.Prelude.{◌⊎◌}
 use Rattle.std.proofs.Common.{inl, inr}
-use Rattle.std.proofs.lemmas.Bool.{cases_lt}
-use Rattle.std.proofs.lemmas.List.{get_or-replicate, length-replicate}
 use Rattle.std.proofs.lemmas.List.Elements.{All-append, All-nil, All-cons}
-use Rattle.mv_num.proofs.Lists.{index_beyond}
 use Rattle.mv_bindings.specs.declared.binding.Binding.{Binding}
 use Rattle.mv_isa.specs.declared.instr.Cause.{Cause}
 use Rattle.mv_fetch.specs.Held.{Held, Room, older_at, choices_of}
 use Rattle.mv_image.specs.Spelling.{Fields}
 use Rattle.mv_refine_machine.specs.Stores.Between.{IsWhole, IsSettled, IsWordBetween, IsBetween}
 use Rattle.mv_refine_machine.specs.Stores.Laws.{RoomsAreWhole}
+use Rattle.mv_refine_machine.proofs.Starts.{none_older}
+use Rattle.mv_refine_machine.specs.Commits.Watch.{texts_of}
 use Rattle.mv_bindings.specs.Acts.{Act}
 use Rattle.mv_machine.specs.Runs.{State, Going, Fault, choices_at, first}
 use Rattle.mv_harts_runs.specs.Harts.{first_of, Place, AtPoll, AtOrder, Elsewhere, place, took}
-use Rattle.mv_harts_runs.specs.Alone.{texts_of, IsPlain, alone, under_alone, BehavesAlone, Fitting, IsAlone, IsOutside}
+use Rattle.mv_harts_runs.specs.Alone.{IsPlain, alone, under_alone, BehavesAlone, Fitting, IsAlone, IsOutside}
 use Rattle.mv_harts_runs.proofs.Acts.{with_acts}
 use Rattle.mv_harts_runs.proofs.Owners.{runs_own}
 use Rattle.mv_harts_runs.proofs.Reserves.{runs_reserve}
@@ -53,7 +52,7 @@ pub record Facts (h : ℕ) (image : Fields) (s : State) : Type 0 where
   pub between : IsBetween (texts_of image old) (texts_of image s.bindings) s.room.held
   pub calm : (place s 0 ≡ Elsewhere → ⊥) → IsBetween (texts_of image s.bindings) (texts_of image s.bindings) s.room.held × IsPlain image s.pc
 
-none_or_some : (o : Option (List Binding)) → (o ≡ None) ⊎ ((x : List Binding) × (o ≡ Some x))
+pub none_or_some : (o : Option (List Binding)) → (o ≡ None) ⊎ ((x : List Binding) × (o ≡ Some x))
 none_or_some None = inl refl
 none_or_some (Some x) = inr (x, refl)
 
@@ -124,17 +123,10 @@ module _ (image : Fields) (input : ℕ → List (Option ℕ)) (Fits : ℕ → Ac
 
 -- ---- memory that is calm and whole is settled
 
-none_at : (n k : ℕ) → older_at (replicate n []) k ≡ []
-none_at n k = by_lt (cases_lt k n)
-  where
-    by_lt : (k < n) ⊎ (n ≤ k) → older_at (replicate n []) k ≡ []
-    by_lt (inl lt) = get_or-replicate n k [] [] lt
-    by_lt (inr le) = index_beyond (replicate n []) k (let l = length-replicate {A = List ℕ} n [] in omega (arith, l, le))
-
 pub settles : RoomsAreWhole → (text : List ℕ) (r : Room) → IsWhole r → IsBetween text text r.held → IsSettled text r
 settles rooms text r whole b =
     let same = (rooms.same text r.held).0 b in
-    rooms.settles text r whole same.0 (λ k. ap (λ (l : List (List ℕ)). older_at l k) same.1 ∙ none_at (length text) k)
+    rooms.settles text r whole same.0 (λ k. ap (λ (l : List (List ℕ)). older_at l k) same.1 ∙ none_older (length text) k)
 
 pub between_text : RoomsAreWhole → (text : List ℕ) (h : Held) → IsBetween text text h → h.text ≡ text
 between_text rooms text h b = ((rooms.same text h).0 b).0

@@ -11,17 +11,19 @@ use Rattle.mv_patch.specs.Pairs.{pairs_between}
 use Rattle.mv_patch.specs.Stores.{stored_all}
 use Rattle.mv_patch.specs.Orders.{values_of}
 use Rattle.mv_refine_machine.specs.Stores.Between.{IsBetween}
+use Rattle.mv_refine_machine.proofs.Calming.{going_told}
+use Rattle.mv_refine_machine.specs.Commits.Watch.{texts_of}
 use Rattle.mv_bindings.specs.Acts.{Act, Skip, Flip, Adopt}
-use Rattle.mv_machine.specs.Runs.{State, Stop, Going, Exit, Trap, Fault, turn, is_going}
+use Rattle.mv_machine.specs.Runs.{State, Stop, Going, turn, is_going}
 use Rattle.mv_machine.specs.Commits.{fetched_instr, after_instr, commit_after}
 use Rattle.mv_harts_runs.specs.Harts.{Mode, Runs, Parked, Freed, Hart, Harts, Place, AtOrder, AtPoll, Elsewhere, place, Store, told, is_in_text, shared_room, shared, is_on, fails, is_outside, next_act, left_behind, later_acts, took, handed, move, is_flip, is_commit, is_parked, is_away, all_away, freed_from, freed, leader_goes, leader_commits, leader_waits, leader_by, leader_turn}
-use Rattle.mv_harts_runs.specs.Alone.{texts_of, under_alone, Fitting, Known, adopts_of, IsAlone, IsUpToDate, IsBehind, StandsBy, Stands, IsOther, IsRight}
+use Rattle.mv_harts_runs.specs.Alone.{under_alone, Fitting, Known, adopts_of, IsAlone, IsUpToDate, IsBehind, StandsBy, Stands, IsOther, IsRight}
 use Rattle.mv_harts_runs.proofs.Rooms.{Follows, in_text, older_same, shared_follows, shared_elsewhere, no_store}
 use Rattle.mv_harts_runs.proofs.Acts.{IsNoCall, ecall_or, instr_acts, place_elsewhere, with_acts, move_pick}
 use Rattle.mv_harts_runs.proofs.Calls.{IsOwn}
 use Rattle.mv_harts_runs.proofs.Moves.{IsElsewhere, call_told, stays, stores, binds, under_stays, under_begins, alone_more, under_alone_more}
 use Rattle.mv_harts_runs.proofs.Lists.{map_there, away_at}
-use Rattle.mv_harts_runs.proofs.Facts.{Facts, facts, facts_settled, facts_between, facts_calm, settles, between_text, between_like, took_fits}
+use Rattle.mv_harts_runs.proofs.Facts.{Facts, facts, facts_settled, facts_between, facts_calm, settles, between_text, between_like, took_fits, none_or_some}
 
 -- ---- stores that are shared
 
@@ -48,23 +50,13 @@ shared_ended st x e = ap (λ g. if g then record x { state = record x.state { ro
 
 -- ---- how runs stand
 
-pub is_going_told : (stop : Stop) → is_going stop ≡ true → stop ≡ Going
-is_going_told Going e = refl
-is_going_told (Exit status) e = absurd (cc)
-is_going_told (Trap code) e = absurd (cc)
-is_going_told (Fault why) e = absurd (cc)
-
 -- a hart that has not ended goes on
 pub on_going : (x : Hart) → is_on x ≡ true → x.state.stop ≡ Going
-on_going x e = is_going_told x.state.stop (and_parts (is_going x.state.stop) (not x.failed) e).0
+on_going x e = going_told x.state.stop (and_parts (is_going x.state.stop) (not x.failed) e).0
 
 pub none_from : (u u' : Option (List Binding)) → ((old : List Binding) → u' ≡ Some old → u ≡ Some old) → u ≡ None → u' ≡ None
 none_from u None from e = refl
 none_from u (Some old) from e = absurd (let f = from old refl in cc)
-
-pub none_or : (o : Option (List Binding)) → (o ≡ None) ⊎ ((x : List Binding) × (o ≡ Some x))
-none_or None = inl refl
-none_or (Some x) = inr (x, refl)
 
 -- a store that isn't told away
 pub elsewhere_none : (o : Option Store) → o ≡ None → IsElsewhere o
@@ -233,7 +225,7 @@ module _ (known : Known) (image : Fields) (input : ℕ → List (Option ℕ)) (F
         between : IsBetween (texts_of image before.bindings) (texts_of image t.bindings) (shared_room (Some st) x.state.room).held
 
       followed : (st : Store) (h : ℕ) (x : Hart) → is_in_text st.address ≡ true → told s 0 ≡ Some st → (y : IsBehind image input h x s hs.under hs.commits) → Followed st x y.before
-      followed st h x here e y = by_under (none_or hs.under)
+      followed st h x here e y = by_under (none_or_some hs.under)
         where
           by_under : (hs.under ≡ None) ⊎ ((old : List Binding) × (hs.under ≡ Some old)) → Followed st x y.before
           by_under (inl none) = absurd (not_settled st here e none)

@@ -1,14 +1,15 @@
 -- Lists of harts, and what harts took.
-use Rattle.std.proofs.Common.{◌≡◌, ◌≢◌, ◌⊎◌, inl, inr, ℕ, zero, suc, true, List, [], ◌∷◌, ◌++◌, map, set, slice_get, Option, Some, None, option_map, refl, sym, ap, ◌∙◌}
+use Rattle.std.proofs.Common.{◌≡◌, ◌≢◌, ◌⊎◌, inl, inr, ℕ, zero, suc, true, List, [], ◌∷◌, ◌++◌, map, set, length, slice_get, Option, Some, None, option_map, refl, sym, ap, ◌∙◌}
 use Rattle.std.proofs.lemmas.Bool.{cases_eq, and_parts}
 use Rattle.std.proofs.lemmas.Option.{slice_get-map}
 use Rattle.mv_bindings.specs.declared.binding.Binding.{Binding}
 use Rattle.mv_num.proofs.Lists.{set_there}
+use Rattle.mv_image.specs.Spelling.{Fields}
 use Rattle.mv_bindings.specs.Acts.{Act, Skip, Flip, Adopt}
-use Rattle.mv_harts_runs.specs.Harts.{Hart, is_away, all_away, last_of}
+use Rattle.mv_harts_runs.specs.Harts.{Hart, is_away, all_away, last_of, others_from}
 use Rattle.mv_harts_runs.specs.Alone.{adopts_of}
 
-set_other : {A : Type 0} (xs : List A) (n m : ℕ) (y : A) → m ≢ n → slice_get (set xs n y) m ≡ slice_get xs m
+pub set_other : {A : Type 0} (xs : List A) (n m : ℕ) (y : A) → m ≢ n → slice_get (set xs n y) m ≡ slice_get xs m
 set_other [] n m y ne = refl
 set_other (x ∷ xs) zero zero y ne = absurd (ne refl)
 set_other (x ∷ xs) zero (suc m) y ne = refl
@@ -29,6 +30,10 @@ some_map f (Some x) y e = (x, refl, cc)
 
 pub map_there : {A B : Type 0} (f : A → B) (xs : List A) (n : ℕ) (y : B) → slice_get (map f xs) n ≡ Some y → (x : A) × (slice_get xs n ≡ Some x) × (y ≡ f x)
 map_there f xs n y e = some_map f (slice_get xs n) y (sym (slice_get-map f xs n) ∙ e)
+
+pub others_length : (n : ℕ) (image : Fields) (input : ℕ → List (Option ℕ)) (count : ℕ) → length (others_from n image input count) ≡ count
+others_length n image input zero = refl
+others_length n image input (suc count) = ap suc (others_length (suc n) image input count)
 
 pub away_at : (hs : List Hart) (n : ℕ) (o : Hart) → all_away hs ≡ true → slice_get hs n ≡ Some o → is_away o ≡ true
 away_at [] n o h e = absurd (cc)

@@ -1,5 +1,5 @@
 -- What one instruction of a hart leaves, and that it is the next one of its run alone.
-use Rattle.std.proofs.Common.{◌≡◌, ◌⊎◌, inl, inr, ℕ, add-one, ◌+◌, ◌≤◌, Bool, true, false, cond, nat_eq, List, [], ◌∷◌, ◌++◌, append_assoc, slice_get, slice_index, Option, Some, None, refl, sym, ap, ap₂, ◌∙◌, subst}
+use Rattle.std.proofs.Common.{◌≡◌, ◌⊎◌, inl, inr, ℕ, ◌+◌, ◌≤◌, Bool, true, false, cond, nat_eq, List, [], ◌∷◌, ◌++◌, append_assoc, slice_get, slice_index, Option, Some, None, refl, sym, ap, ap₂, ◌∙◌, subst}
 use Rattle.std.specs.Prelude.{option_and_then, if◌then◌else◌}
 use Rattle.mv_num.specs.Regions.{data_start}
 use Rattle.mv_bindings.specs.declared.binding.Binding.{Binding}
@@ -14,15 +14,18 @@ use Rattle.mv_image.specs.Spelling.{Fields}
 use Rattle.mv_rv32.specs.Stepping.{access}
 use Rattle.mv_refine_machine.specs.Stores.Between.{IsWhole}
 use Rattle.mv_refine_machine.specs.Stores.Laws.{RoomsAreWhole}
+use Rattle.mv_refine_machine.proofs.OfCommits.Planned.{no_pairs}
+use Rattle.mv_refine_machine.proofs.OfRuns.Stopping.{calls_where, commit_more}
 use Rattle.mv_patch.specs.Plans.{plan_between}
 use Rattle.mv_bindings.specs.Acts.{Act, Skip}
-use Rattle.mv_machine.specs.Runs.{State, Going, Fault, request_of, environment_call, fetched_step, after, turn, runs_from, is_going}
-use Rattle.mv_machine.specs.Commits.{fetched_instr, is_some_pair, after_instr, commit_after, commit_from}
+use Rattle.mv_machine.specs.Runs.{State, Going, Fault, request_of, environment_call, fetched_step, after, turn, is_going}
+use Rattle.mv_machine.specs.Commits.{fetched_instr, is_some_pair, after_instr, commit_after}
+use Rattle.mv_machine.proofs.Turns.{turn_by, runs_more}
 use Rattle.mv_harts_runs.specs.Harts.{first_of, Place, AtOrder, AtPoll, Elsewhere, place, handed, Store, store_of, told, took, move, is_in_text}
 use Rattle.mv_harts_runs.specs.Alone.{alone, under_alone, IsAlone}
 use Rattle.mv_harts_runs.proofs.Steps.{Effect, is_fence, FetchedLed, fetched_led}
-use Rattle.mv_harts_runs.proofs.Acts.{IsNoCall, ecall_or, calls_where, where_calls, coming, with_acts, turn_by, step_acts, instr_acts, place_at_call, turn_acts, under_acts}
-use Rattle.mv_harts_runs.proofs.Calls.{store_kept, IsOwn, call_kept, call_binds, no_pairs}
+use Rattle.mv_harts_runs.proofs.Acts.{IsNoCall, ecall_or, where_calls, coming, with_acts, step_acts, instr_acts, place_at_call, turn_acts, under_acts}
+use Rattle.mv_harts_runs.proofs.Calls.{store_kept, IsOwn, call_kept, call_binds}
 
 -- text stays, and memory stays whole
 pub record Stays (r r' : Room) : Type 0 where
@@ -140,14 +143,6 @@ module _ (rooms : RoomsAreWhole) (image : Fields) (in_data : (k : ℕ) (row : Sw
 
 -- ---- the next instruction of its run alone
 
-runs_more : (s : State) (picks : List ℕ) (n : ℕ) → runs_from s picks (n + 1) ≡ turn (runs_from s picks n) (slice_index picks n)
-unfolding runs_from
-runs_more s picks n = ap (λ (k : ℕ). runs_from s picks k) (add-one n)
-
-under_more : (s : State) (picks : List ℕ) (n : ℕ) → commit_from s picks (n + 1) ≡ commit_after (runs_from s picks n) (slice_index picks n) (commit_from s picks n)
-unfolding commit_from
-under_more s picks n = ap (λ (k : ℕ). commit_from s picks k) (add-one n)
-
 no_pick : (n : ℕ) → slice_index [] n ≡ 0
 no_pick n = refl
 
@@ -172,7 +167,7 @@ module _ (image : Fields) (input : ℕ → List (Option ℕ)) (h : ℕ) (s : Sta
   under_alone_more u under more =
       let acts = coming (place s 0) a more in
       ap (λ l. under_alone h image (input h) l (count + 1)) (took_more (place s 0) a taken more)
-      ∙ under_more (first_of h image (input h) (taken ++ acts)) [] count
+      ∙ commit_more (first_of h image (input h) (taken ++ acts)) [] count
       ∙ ap₂ (λ (x : State) (v : Option (List Binding)). commit_after x (slice_index [] count) v) (is acts) (under acts)
       ∙ ap (λ (k : ℕ). commit_after (with_acts s acts) k u) (no_pick count)
       ∙ under_acts s a more 0 going u

@@ -10,11 +10,12 @@ use Rattle.mv_fetch.specs.Held.{choices}
 use Rattle.mv_image.specs.Spelling.{Fields}
 use Rattle.mv_patch.specs.Stores.{stored_all}
 use Rattle.mv_refine_machine.specs.Stores.Between.{IsBetween}
+use Rattle.mv_refine_machine.specs.Commits.Watch.{texts_of}
 use Rattle.mv_patch.specs.Plans.{plan_between}
 use Rattle.mv_bindings.specs.Acts.{Act, Skip, Adopt}
 use Rattle.mv_machine.specs.Runs.{State, Going, adopts, answered, choices_at, turn, spelled_pairs, is_going}
 use Rattle.mv_harts_runs.specs.Harts.{Mode, Runs, Parked, Freed, Hart, Harts, Place, AtOrder, AtPoll, Elsewhere, place, Store, told, is_in_text, shared, is_on, fails, is_outside, other_fails, took, handed, move, leader_turn, other_goes, other_waits, at_poll, other_by, other_at, other_turn, turn_of, last_of}
-use Rattle.mv_harts_runs.specs.Alone.{texts_of, IsPlain, alone, Fitting, Known, adopts_of, IsAlone, IsUpToDate, IsBehind, StandsBy, Stands, IsOther, IsRight}
+use Rattle.mv_harts_runs.specs.Alone.{IsPlain, alone, Fitting, Known, adopts_of, IsAlone, IsUpToDate, IsBehind, StandsBy, Stands, IsOther, IsRight}
 use Rattle.mv_harts_runs.proofs.Rooms.{no_store}
 use Rattle.mv_harts_runs.proofs.Acts.{with_acts, move_pick}
 use Rattle.mv_harts_runs.proofs.Calls.{plan_kept}

@@ -6,11 +6,12 @@ use Rattle.mv_bindings.specs.declared.binding.Binding.{Binding}
 use Rattle.mv_fetch.specs.Held.{first as first_memory}
 use Rattle.mv_image.specs.Spelling.{Fields}
 use Rattle.mv_refine_machine.specs.Stores.Between.{IsWhole}
+use Rattle.mv_refine_machine.specs.Commits.Watch.{texts_of}
 use Rattle.mv_bindings.specs.Acts.{Act}
 use Rattle.mv_machine.specs.Runs.{State, choices_at, first, runs_from}
 use Rattle.mv_machine.specs.Commits.{commit_from}
 use Rattle.mv_harts_runs.specs.Harts.{first_of, Mode, Runs, Parked, Freed, AtPoll, Elsewhere, Hart, Harts, Turn, is_on, is_in_text, told, place, hart_from, others_from, first_harts, harts_after, turn_of, next_act}
-use Rattle.mv_harts_runs.specs.Alone.{texts_of, alone, under_alone, Fitting, Known, adopts_of, IsAlone, StandsBy, Stands, IsOther, IsRight, IsOutside, IsWell}
+use Rattle.mv_harts_runs.specs.Alone.{alone, under_alone, Fitting, Known, adopts_of, IsAlone, StandsBy, Stands, IsOther, IsRight, IsOutside, IsWell}
 use Rattle.mv_harts_runs.proofs.Facts.{facts, facts_settled, facts_between, between_text, outside}
 use Rattle.mv_harts_runs.proofs.Leader.{on_going, other_room, store_no_commit, not_settled, called_told, elsewhere_none}
 use Rattle.mv_harts_runs.proofs.Moves.{IsElsewhere}

@@ -8,18 +8,14 @@ use Rattle.mv_fetch.specs.Held.{index_of}
 use Rattle.mv_isa.specs.declared.instr.Cause.{Cause}
 use Rattle.mv_image.specs.Faults.{Rules}
 use Rattle.mv_image.specs.Spelling.{Fields}
-use Rattle.mv_image.specs.Patched.{text_of}
-use Rattle.mv_patch.specs.Orders.{values_of}
 use Rattle.mv_refine_machine.specs.Stores.Between.{IsWhole, IsSettled, IsBetween}
 use Rattle.mv_refine_machine.specs.Stores.Laws.{TextIsBetween, BetweenIsTested, RoomsAreWhole, StoresFindRoom}
 use Rattle.mv_refine_machine.specs.Stores.Stores.{AreTexts}
+use Rattle.mv_refine_machine.specs.Commits.Watch.{texts_of}
 use Rattle.mv_bindings.specs.Acts.{Act, Skip, Flip, Adopt}
 use Rattle.mv_machine.specs.Runs.{State, Going, Fault, choices_at, runs_from}
 use Rattle.mv_machine.specs.Commits.{commit_from}
 use Rattle.mv_harts_runs.specs.Harts.{first_of, AtPoll, Elsewhere, place, is_on, Mode, Runs, Parked, Freed, Hart, Harts, Turn, first_harts, harts_after, Store, told, is_in_text}
-
-abbrev pub texts_of : Fields → List Binding → List ℕ
-texts_of image bs = text_of image (values_of bs)
 
 -- no binding shows at an address
 abbrev pub IsPlain : Fields → ℕ → Type 0

@@ -114,7 +114,9 @@ pub record AreBut (was is : Group) (n : ℕ) (old seat : Seat) : Type 0 where
   pub under : is.under ≡ was.under
   pub commits : is.commits ≡ was.commits
 
-module _ (image : Fields) (actions : List Action) (bytes : ℕ → List ℕ) (was is : Group) (hs : Harts) (n : ℕ) (old seat : Seat) (shown : Shows image actions bytes was hs) (stop : old.stop ≡ None) (b : AreBut was is n old seat) (o : Hart) (there : slice_get hs.others n ≡ Some o) (is_seat : IsSeat image hs.commits (suc n) (bytes (suc n)) old o) where
+module _ (image : Fields) (actions : List Action) (bytes : ℕ → List ℕ) (was is : Group) (hs : Harts) (n : ℕ) (old seat : Seat)
+    (shown : Shows image actions bytes was hs) (stop : old.stop ≡ None) (b : AreBut was is n old seat) (o : Hart)
+    (there : slice_get hs.others n ≡ Some o) (is_seat : IsSeat image hs.commits (suc n) (bytes (suc n)) old o) where
   is_on_now : is_on o ≡ true
   is_on_now = on_none (suc n) old (bytes (suc n)) o is_seat.sits stop
 

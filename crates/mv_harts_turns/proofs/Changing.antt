@@ -5,12 +5,13 @@ use Rattle.std.proofs.lemmas.Bool.{cases_lt}
 use Rattle.std.proofs.lemmas.Option.{slice_get_past}
 use Rattle.mv_num.proofs.Lists.{set_there}
 use Rattle.mv_harts_runs.specs.Harts.{Store}
+use Rattle.mv_harts_runs.proofs.Lists.{set_other}
 use Rattle.mv_harts_one.specs.declared.seat.Seat.{Seat}
 use Rattle.mv_harts_one.specs.Seats.{Sits}
 use Rattle.mv_harts_one.proofs.Advancing.{unshared}
 use Rattle.mv_harts_turns.specs.Pairs.{Both}
 use Rattle.mv_harts_turns.specs.Groups.{TookStore, Shared}
-use Rattle.mv_harts_turns.proofs.Places.{both_here, both_same, both_moved, both_weaker, set_other}
+use Rattle.mv_harts_turns.proofs.Places.{both_here, both_same, both_moved, both_weaker}
 
 -- each place below k is changed, and the others are as they were
 pub record ChangedBelow {A : Type 0} (R : ℕ → A → A → Type 0) (k : ℕ) (was is : List A) : Type 0 where

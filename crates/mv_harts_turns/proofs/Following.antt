@@ -10,7 +10,8 @@ use Rattle.mv_bindings.specs.Acts.{Skip, act_of}
 use Rattle.mv_image.specs.Spelling.{Fields}
 use Rattle.mv_machine.specs.Runs.{answered}
 use Rattle.mv_harts_runs.specs.Harts as harts
-use Rattle.mv_harts_runs.specs.Harts.{Hart, Harts, Move, AtOrder, AtPoll, Elsewhere, Store, shared, executes, fails, other_goes, other_fails, other_waits, other_adopts, other_by, at_poll, last_of, move, is_on}
+use Rattle.mv_harts_runs.specs.Harts.{Hart, Harts, Move, AtOrder, AtPoll, Elsewhere, shared, executes, other_goes, other_fails, other_waits, other_adopts, other_by, at_poll, last_of, move, is_on}
+use Rattle.mv_harts_runs.proofs.Lists.{set_other}
 use Rattle.mv_harts_one.specs.declared.seat.Seat.{Seat}
 use Rattle.mv_harts_one.specs.declared.seat.Mode.{Mode}
 use Rattle.mv_harts_one.specs.declared.seat.Mode.TheVariants as mode
@@ -24,7 +25,7 @@ use Rattle.mv_harts_turns.specs.declared.group.Committed.{Committed}
 use Rattle.mv_harts_turns.specs.declared.poll.PollAnswer.TheVariants.{Waits, Adopts, Goes}
 use Rattle.mv_harts_turns.specs.Polls.{answer_at, answer_by}
 use Rattle.mv_harts_turns.specs.Groups.{IsSeat, IsGlance, Shared, Shows, Beside, WasAsked, IsDevice, TookStore, SameStop, SameStops, SameCounts, Fares, FaresBy, StandsAs, IsOnAt, Wrote, WroteIn, Stepped, StepRefused, Reaches, Refused, acted, asked, asked_by, hart_at, seat_at, output_of, output, other_acts, held, adopts_last, bindings_of}
-use Rattle.mv_harts_turns.proofs.Places.{both_weaker, both_moved, both_here, both_left, both_after, pairs_one, set_other, map_set_other, map_set_there, sum_same, sum_one}
+use Rattle.mv_harts_turns.proofs.Places.{both_weaker, both_moved, both_here, both_left, both_after, pairs_one, map_set_other, map_set_there, sum_same, sum_one}
 use Rattle.mv_harts_turns.proofs.Seats.{not_failed, shared_asked, shared_output}
 use Rattle.mv_harts_turns.proofs.Standing.{shared_stands, option_shared, fares_none, fares_by}
 use Rattle.mv_harts_turns.proofs.Reaching.{reaches_quiet, other_any, other_any_is, output_shared, seat_took, seat_bytes, move_store, outside_silent}
@@ -99,7 +100,8 @@ module _ (image : Fields) (actions : List Action) (bytes : ℕ → List ℕ) (x 
     other_took after own rest = pairs_one (λ k. IsSeat image hs.commits (suc k) (after (suc k))) is.others.items now.others n seat next w.own
         (map_set_there (shared m.store) hs.others n o next w.there)
         (seat_bytes image hs.commits (suc n) w.stepped.rest (after (suc n)) seat next own w.stepped.is_seat)
-        (λ k ne. both_moved (IsSeat image hs.commits (suc k) (after (suc k))) (slice_get is.others.items k) (slice_get is.others.items k) (option_map (shared m.store) (slice_get hs.others k)) (slice_get now.others k) refl (map_set_other (shared m.store) hs.others n k next ne)
+        (λ k ne. both_moved (IsSeat image hs.commits (suc k) (after (suc k))) (slice_get is.others.items k) (slice_get is.others.items k)
+        (option_map (shared m.store) (slice_get hs.others k)) (slice_get now.others k) refl (map_set_other (shared m.store) hs.others n k next ne)
         (both_after (TookStore m.store) (IsSeat image hs.commits (suc k) (bytes (suc k))) (IsSeat image hs.commits (suc k) (after (suc k))) (shared m.store)
         (λ s s' p q r. seat_took image hs.commits (suc k) (bytes (suc k)) (after (suc k)) m.store s s' p (rest (suc k) (λ e. ne (let d : k ≡ n = cc in d))) q r)
         (slice_get was.others.items k) (slice_get is.others.items k) (slice_get hs.others k) (w.rest k ne) (w.shown.others k)))
@@ -146,7 +148,8 @@ module _ (image : Fields) (actions : List Action) (bytes : ℕ → List ℕ) (x 
 
 -- by what the code has seen and done
 
-module _ (image : Fields) (actions : List Action) (bytes : ℕ → List ℕ) (x : Beside) (was is : Group) (hs : Harts) (n : ℕ) (o : Hart) (glance : Glance) (shown : Shows image actions bytes was hs) (there : slice_get hs.others n ≡ Some o) (seen : IsGlance glance o) where
+module _ (image : Fields) (actions : List Action) (bytes : ℕ → List ℕ) (x : Beside) (was is : Group) (hs : Harts) (n : ℕ) (o : Hart) (glance : Glance)
+    (shown : Shows image actions bytes was hs) (there : slice_get hs.others n ≡ Some o) (seen : IsGlance glance o) where
   abbrev moved : Move
   moved = move o.state Skip None 0
 
@@ -167,7 +170,8 @@ module _ (image : Fields) (actions : List Action) (bytes : ℕ → List ℕ) (x 
           silent = outside_silent o.state Skip None;
           leads = subst (λ st. TookStore st was.leader is.leader) st leads;
           own = shares'.own n refl ∙ own;
-          rest = λ k ne. both_moved (TookStore moved.store) (slice_get mid k) (slice_get was.others.items k) (slice_get is.others.items k) (slice_get is.others.items k) (sym (rest k ne)) refl (shares'.rest k (λ e. ne (let d : k ≡ n = cc in d)));
+          rest = λ k ne. both_moved (TookStore moved.store) (slice_get mid k) (slice_get was.others.items k) (slice_get is.others.items k)
+              (slice_get is.others.items k) (sym (rest k ne)) refl (shares'.rest k (λ e. ne (let d : k ≡ n = cc in d)));
           same_played = played;
           same_wanted = wanted;
           same_under = under;
@@ -216,7 +220,8 @@ module _ (image : Fields) (actions : List Action) (bytes : ℕ → List ℕ) (x 
     stayed_shows = record {
       leader = subst (λ s. IsSeat image hs.commits 0 (bytes 0) s hs.leader) (sym w.same_leader) w.shown.leader;
       others = pairs_one (λ k. IsSeat image hs.commits (suc k) (bytes (suc k))) is.others.items (slice_set hs.others n o') n seat o' w.own (set_there hs.others n o o' w.there) w.is_seat
-          (λ k ne. both_moved (IsSeat image hs.commits (suc k) (bytes (suc k))) (slice_get was.others.items k) (slice_get is.others.items k) (slice_get hs.others k) (slice_get (slice_set hs.others n o') k) (w.rest k ne) (set_other hs.others n k o' ne) (w.shown.others k));
+          (λ k ne. both_moved (IsSeat image hs.commits (suc k) (bytes (suc k))) (slice_get was.others.items k) (slice_get is.others.items k)
+          (slice_get hs.others k) (slice_get (slice_set hs.others n o') k) (w.rest k ne) (set_other hs.others n k o' ne) (w.shown.others k));
       actions_are = w.shown.actions_are ∙ ap (λ k. map act_of (drop k actions)) (sym w.same_played);
       wanted = w.shown.wanted ∙ sym w.same_wanted;
       under = w.shown.under ∙ sym w.same_under;
@@ -232,7 +237,9 @@ module _ (image : Fields) (actions : List Action) (bytes : ℕ → List ℕ) (x 
         same (Some s) = refl
 
         by_eq : (k ≡ n) ⊎ (k ≢ n) → Both (λ (s s' : Seat). s'.stop ≡ s.stop) (slice_get was.others.items k) (slice_get is.others.items k)
-        by_eq (inl e) = both_here (λ (s s' : Seat). s'.stop ≡ s.stop) (slice_get was.others.items k) (slice_get is.others.items k) old seat (ap (slice_get was.others.items) e ∙ w.old_there) (ap (slice_get is.others.items) e ∙ w.own) w.same_stop
+        by_eq (inl e) =
+            both_here (λ (s s' : Seat). s'.stop ≡ s.stop) (slice_get was.others.items k) (slice_get is.others.items k) old seat
+            (ap (slice_get was.others.items) e ∙ w.old_there) (ap (slice_get is.others.items) e ∙ w.own) w.same_stop
         by_eq (inr ne) = subst (λ p. Both (λ (s s' : Seat). s'.stop ≡ s.stop) (slice_get was.others.items k) p) (sym (w.rest k ne)) (same (slice_get was.others.items k))
 
     stayed_output : (h : ℕ) → output h set_now ≡ output h hs
@@ -364,19 +371,26 @@ module _ (hs : Harts) (n : ℕ) (o : Hart) (m : Move) (seat : Seat) (group : Gro
 
 -- ---- what the code has done at a poll
 
-pub held_ok : (image : Fields) (actions : List Action) (bytes : ℕ → List ℕ) (x : Beside) (was is : Group) (hs : Harts) (n : ℕ) (o : Hart) (m : Move) (md : harts.Mode) (f : Bool) (old seat : Seat) → other_by m.place hs n o m f ≡ other_waits hs n o md → Stayed image actions bytes x was is hs n o (held o md) 0 old seat →
+pub held_ok : (image : Fields) (actions : List Action) (bytes : ℕ → List ℕ) (x : Beside) (was is : Group) (hs : Harts) (n : ℕ) (o : Hart) (m : Move)
+    (md : harts.Mode) (f : Bool) (old seat : Seat) → other_by m.place hs n o m f ≡ other_waits hs n o md
+    → Stayed image actions bytes x was is hs n o (held o md) 0 old seat →
     Reaches image actions (suc n) bytes x was is hs (other_by m.place hs n o m f)
 held_ok image actions bytes x was is hs n o m md f old seat e w = subst (λ hs'. Reaches image actions (suc n) bytes x was is hs hs') (sym e) (stayed image actions bytes x was is hs n o (held o md) 0 old seat w)
 
-pub adopted_ok : (image : Fields) (actions : List Action) (bytes : ℕ → List ℕ) (x : Beside) (was is : Group) (hs : Harts) (n : ℕ) (o : Hart) (m : Move) (f : Bool) (old seat : Seat) → other_by m.place hs n o m f ≡ other_adopts hs n o → Stayed image actions bytes x was is hs n o (adopts_last o (last_of hs.commits)) 1 old seat →
+pub adopted_ok : (image : Fields) (actions : List Action) (bytes : ℕ → List ℕ) (x : Beside) (was is : Group) (hs : Harts) (n : ℕ) (o : Hart)
+    (m : Move) (f : Bool) (old seat : Seat) → other_by m.place hs n o m f ≡ other_adopts hs n o
+    → Stayed image actions bytes x was is hs n o (adopts_last o (last_of hs.commits)) 1 old seat →
     Reaches image actions (suc n) bytes x was is hs (other_by m.place hs n o m f)
 adopted_ok image actions bytes x was is hs n o m f old seat e w = subst (λ hs'. Reaches image actions (suc n) bytes x was is hs hs') (sym e) (stayed image actions bytes x was is hs n o (adopts_last o (last_of hs.commits)) 1 old seat w)
 
 -- a seat by the commits that the group holds, and by those of the harts
-pub seat_by_code : (image : Fields) (commits : List (List Binding)) (held_commits : List Committed) (n : ℕ) (bytes : List ℕ) (seat : Seat) (o : Hart) → commits ≡ bindings_of held_commits → IsSeat image commits n bytes seat o → IsSeat image (bindings_of held_commits) n bytes seat o
+pub seat_by_code : (image : Fields) (commits : List (List Binding)) (held_commits : List Committed) (n : ℕ) (bytes : List ℕ) (seat : Seat) (o : Hart)
+    → commits ≡ bindings_of held_commits → IsSeat image commits n bytes seat o → IsSeat image (bindings_of held_commits) n bytes seat o
 seat_by_code image commits held_commits n bytes seat o e h = subst (λ l. IsSeat image l n bytes seat o) e h
 
-pub seat_adopted : (image : Fields) (commits : List (List Binding)) (held_commits : List Committed) (n : ℕ) (bytes : List ℕ) (seat : Seat) (o : Hart) → commits ≡ bindings_of held_commits → IsSeat image (bindings_of held_commits) n bytes seat (adopts_last o (last_of (bindings_of held_commits))) → IsSeat image commits n bytes seat (adopts_last o (last_of commits))
+pub seat_adopted : (image : Fields) (commits : List (List Binding)) (held_commits : List Committed) (n : ℕ) (bytes : List ℕ) (seat : Seat) (o : Hart)
+    → commits ≡ bindings_of held_commits → IsSeat image (bindings_of held_commits) n bytes seat (adopts_last o (last_of (bindings_of held_commits)))
+    → IsSeat image commits n bytes seat (adopts_last o (last_of commits))
 seat_adopted image commits held_commits n bytes seat o e h = subst (λ l. IsSeat image l n bytes seat (adopts_last o (last_of l))) (sym e) h
 
 pub adopts_output : (o : Hart) (bs : List Binding) → (adopts_last o bs).state.output ≡ o.state.output

@@ -7,7 +7,7 @@ use Rattle.mv_bindings.specs.Acts.{Act, act_of}
 use Rattle.mv_image.specs.Spelling.{Fields}
 use Rattle.mv_machine.specs.Runs.{State}
 use Rattle.mv_harts_runs.specs.Harts as harts
-use Rattle.mv_harts_runs.specs.Harts.{Hart, Harts, Move, AtOrder, AtPoll, Elsewhere, Store, is_commit, all_away, shared, freed, later_acts, left_behind, executes, fails, leader_goes, leader_commits, leader_waits, leader_by, waits, next_act, move}
+use Rattle.mv_harts_runs.specs.Harts.{Hart, Harts, Move, is_commit, all_away, shared, freed, later_acts, left_behind, executes, fails, leader_goes, leader_commits, leader_waits, leader_by, next_act, move}
 use Rattle.mv_harts_one.specs.declared.seat.Seat.{Seat}
 use Rattle.mv_harts_one.specs.declared.glance.Place.{Place}
 use Rattle.mv_harts_one.specs.declared.glance.Place.TheVariants as place
@@ -60,7 +60,8 @@ module _ (image : Fields) (actions : List Action) (bytes : ℕ → List ℕ) (x 
   others_took : (b : Bool) → Went b → (after : ℕ → List ℕ) → ((h : ℕ) → h ≢ 0 → after h ≡ bytes h) → Pairs (λ n. IsSeat image hs.commits (suc n) (after (suc n))) is.others.items (map (shared m.store) hs.others)
   others_took b w after rest n =
       let ne : suc n ≢ 0 = λ e. absurd (cc) in
-      both_moved (IsSeat image hs.commits (suc n) (after (suc n))) (slice_get is.others.items n) (slice_get is.others.items n) (option_map (shared m.store) (slice_get hs.others n)) (slice_get (map (shared m.store) hs.others) n) refl (slice_get-map (shared m.store) hs.others n)
+      both_moved (IsSeat image hs.commits (suc n) (after (suc n))) (slice_get is.others.items n) (slice_get is.others.items n)
+      (option_map (shared m.store) (slice_get hs.others n)) (slice_get (map (shared m.store) hs.others) n) refl (slice_get-map (shared m.store) hs.others n)
       (both_after (TookStore m.store) (IsSeat image hs.commits (suc n) (bytes (suc n))) (IsSeat image hs.commits (suc n) (after (suc n))) (shared m.store)
       (λ s s' o q r. seat_took image hs.commits (suc n) (bytes (suc n)) (after (suc n)) m.store s s' o (rest (suc n) ne) q r)
       (slice_get was.others.items n) (slice_get is.others.items n) (slice_get hs.others n) (w.shares.rest n ne) (w.shown.others n))
@@ -109,7 +110,9 @@ module _ (image : Fields) (actions : List Action) (bytes : ℕ → List ℕ) (x 
   went b w = subst (λ hs'. Reaches image actions 0 bytes x was is hs hs') (sym (leader_any_is w.stepped.failing hs a m w.stepped.outside w.silent)) (went_any b w)
 
   -- without memory
-  wrote_by : (f : Bool) (more : List ℕ) → IsDevice m f → (m.outside ≡ true → m.store ≡ None) → (acted f hs.leader a m).state.output ≡ hs.leader.state.output ++ more → FaresBy x hs.leader (acted f hs.leader a m) → WroteIn 0 x hs (leader_acts hs a m f) more
+  wrote_by : (f : Bool) (more : List ℕ) → IsDevice m f → (m.outside ≡ true → m.store ≡ None)
+      → (acted f hs.leader a m).state.output ≡ hs.leader.state.output ++ more → FaresBy x hs.leader (acted f hs.leader a m)
+      → WroteIn 0 x hs (leader_acts hs a m f) more
   wrote_by f more d silent e fares = subst (λ hs'. WroteIn 0 x hs hs' more) (sym (leader_any_is f hs a m d silent)) (record { wrote = record { own = e; rest = rest }; own = fares; others = stand })
     where
       stand : (h : ℕ) → h ≢ 0 → Both StandsAs (hart_at h hs) (hart_at h (leader_any f hs a m))
@@ -136,7 +139,8 @@ module _ (image : Fields) (actions : List Action) (bytes : ℕ → List ℕ) (x 
 
 -- by what the code has seen and done
 
-module _ (image : Fields) (actions : List Action) (bytes : ℕ → List ℕ) (x : Beside) (was is : Group) (hs : Harts) (act : Act) (glance : Glance) (shown : Shows image actions bytes was hs) (seen : IsGlance glance hs.leader) (handed : next_act hs.actions ≡ act) where
+module _ (image : Fields) (actions : List Action) (bytes : ℕ → List ℕ) (x : Beside) (was is : Group) (hs : Harts) (act : Act) (glance : Glance)
+    (shown : Shows image actions bytes was hs) (seen : IsGlance glance hs.leader) (handed : next_act hs.actions ≡ act) where
   abbrev taken : Act
   taken = next_act hs.actions
 
@@ -170,7 +174,9 @@ module _ (image : Fields) (actions : List Action) (bytes : ℕ → List ℕ) (x 
   pub go_step_refused : StepRefused hs.leader act (move hs.leader.state act hs.under 0) x → Refused 0 x hs (leader_acts hs taken moved false)
   go_step_refused r = went_refused image actions bytes x was is hs taken moved (outside_silent hs.leader.state taken hs.under) (subst (λ (a : Act). StepRefused hs.leader a (move hs.leader.state a hs.under 0) x) (sym handed) r)
 
-  pub go_share_refused : (seat : Seat) (b : Bool) → was.leader.stop ≡ None → Stepped image hs.commits 0 hs.leader act (move hs.leader.state act hs.under 0) hs.under x seat b → (f : Bool) × IsDevice moved f × Refused 0 x hs (leader_acts hs taken moved f)
+  pub go_share_refused : (seat : Seat) (b : Bool) → was.leader.stop ≡ None
+      → Stepped image hs.commits 0 hs.leader act (move hs.leader.state act hs.under 0) hs.under x seat b
+      → (f : Bool) × IsDevice moved f × Refused 0 x hs (leader_acts hs taken moved f)
   go_share_refused seat b on s =
       let s' = stepped_as seat b s in
       (s'.failing, s'.outside, share_refused image actions bytes x was is hs taken moved seat b (not_failed 0 was.leader (bytes 0) hs.leader shown.leader.sits on) (outside_silent hs.leader.state taken hs.under) s')
@@ -188,14 +194,16 @@ map_append : {A B : Type 0} (f : A → B) (xs : List A) (y : A) → map f (xs ++
 map_append f [] y = refl
 map_append f (x ∷ xs) y = ap (λ l. f x ∷ l) (map_append f xs y)
 
-pub shows_committed : (image : Fields) (actions : List Action) (bytes : ℕ → List ℕ) (was is : Group) (c : Committed) (hs : Harts) → is.leader ≡ was.leader → Pairs (λ n. IsFreed) was.others.items is.others.items → is.played ≡ was.played → is.wanted ≡ false → is.under ≡ was.under →
+pub shows_committed : (image : Fields) (actions : List Action) (bytes : ℕ → List ℕ) (was is : Group) (c : Committed) (hs : Harts)
+    → is.leader ≡ was.leader → Pairs (λ n. IsFreed) was.others.items is.others.items → is.played ≡ was.played → is.wanted ≡ false → is.under ≡ was.under →
     is.commits ≡ was.commits ++ c ∷ [] → c.all ≡ was.leader.engine.bindings → Shows image actions bytes was hs → Shows image actions bytes is (committed hs)
 shows_committed image actions bytes was is c hs same frees played wanted under commits all h =
     let bs = hs.leader.state.bindings in
     let left : bs ≡ c.all = ap (λ (s : State). s.bindings) h.leader.sits.state ∙ sym all in
     record {
       leader = subst (λ seat. IsSeat image (hs.commits ++ bs ∷ []) 0 (bytes 0) seat hs.leader) (sym same) (seat_more image hs.commits (bs ∷ []) 0 (bytes 0) was.leader hs.leader h.leader);
-      others = λ n. both_moved (IsSeat image (hs.commits ++ bs ∷ []) (suc n) (bytes (suc n))) (slice_get is.others.items n) (slice_get is.others.items n) (option_map freed (slice_get hs.others n)) (slice_get (map freed hs.others) n) refl (slice_get-map freed hs.others n)
+      others = λ n. both_moved (IsSeat image (hs.commits ++ bs ∷ []) (suc n) (bytes (suc n))) (slice_get is.others.items n)
+          (slice_get is.others.items n) (option_map freed (slice_get hs.others n)) (slice_get (map freed hs.others) n) refl (slice_get-map freed hs.others n)
           (both_after IsFreed (IsSeat image hs.commits (suc n) (bytes (suc n))) (IsSeat image (hs.commits ++ bs ∷ []) (suc n) (bytes (suc n))) freed (λ s s' o q r. seat_freed image hs.commits (bs ∷ []) (suc n) (bytes (suc n)) s s' o q r)
           (slice_get was.others.items n) (slice_get is.others.items n) (slice_get hs.others n) (frees n) (h.others n));
       actions_are = h.actions_are ∙ ap (λ k. map act_of (drop k actions)) (sym played);
@@ -259,7 +267,8 @@ acts_stand : (hs : Harts) (a : Act) (m : Move) (f : Bool) (n : ℕ) → Both Sta
 acts_stand hs a m false n = all_shared m.store hs.others n
 acts_stand hs a m true n = all_stay (slice_get hs.others n)
 
-pub note_refused : (image : Fields) (actions : List Action) (bytes : ℕ → List ℕ) (x : Beside) (was mid : Group) (hs : Harts) (a : Act) (m : Move) (f : Bool) → Shows image actions bytes was hs → was.leader.stop ≡ None → Reaches image actions 0 bytes x was mid hs (leader_acts hs a m f) →
+pub note_refused : (image : Fields) (actions : List Action) (bytes : ℕ → List ℕ) (x : Beside) (was mid : Group) (hs : Harts) (a : Act) (m : Move)
+    (f : Bool) → Shows image actions bytes was hs → was.leader.stop ≡ None → Reaches image actions 0 bytes x was mid hs (leader_acts hs a m f) →
     Refused 0 x hs (committed (leader_acts hs a m f))
 note_refused image actions bytes x was mid hs a m f shown on r = record {
   more = r.more;
@@ -283,7 +292,8 @@ note_refused image actions bytes x was mid hs a m f shown on r = record {
 
 -- ---- hart 0 waits
 
-pub shows_waits : (image : Fields) (actions : List Action) (bytes : ℕ → List ℕ) (group : Group) (hs : Harts) → Shows image actions bytes group hs → Shows image actions bytes (record group { leader = record group.leader { waited = true }; wanted = true }) (leader_waits hs)
+pub shows_waits : (image : Fields) (actions : List Action) (bytes : ℕ → List ℕ) (group : Group) (hs : Harts) → Shows image actions bytes group hs
+    → Shows image actions bytes (record group { leader = record group.leader { waited = true }; wanted = true }) (leader_waits hs)
 shows_waits image actions bytes group hs h = record {
   leader = record {
     same_image = h.leader.same_image;
@@ -301,7 +311,8 @@ output_waits : (h : ℕ) (hs : Harts) → output h (leader_waits hs) ≡ output 
 output_waits zero hs = refl
 output_waits (suc n) hs = refl
 
-pub reaches_waits : (image : Fields) (actions : List Action) (bytes : ℕ → List ℕ) (x : Beside) (was is : Group) (hs : Harts) → x.left ≡ Some (bytes 0) → x.new_written ≡ x.old_written → x.new_way ≡ x.old_way → SameCounts x → Shows image actions bytes is (leader_waits hs) →
+pub reaches_waits : (image : Fields) (actions : List Action) (bytes : ℕ → List ℕ) (x : Beside) (was is : Group) (hs : Harts) → x.left ≡ Some (bytes 0)
+    → x.new_written ≡ x.old_written → x.new_way ≡ x.old_way → SameCounts x → Shows image actions bytes is (leader_waits hs) →
     is.leader.stop ≡ was.leader.stop → is.others ≡ was.others → Reaches image actions 0 bytes x was is hs (leader_waits hs)
 reaches_waits image actions bytes x was is hs left written way counts shows stop others = reaches_quiet image actions 0 bytes x was is hs (leader_waits hs) 0 (record {
   few = omega arith;
@@ -326,7 +337,8 @@ reaches_waits image actions bytes x was is hs left written way counts shows stop
 -- ---- which of them
 
 -- what the code has tested is what the definition tests
-pub commit_is : (p : Place) (action : Action) (actions : List Action) (k : ℕ) (hs : Harts) (b : Bool) → is_commit (place_as p) (act_of action) ≡ b → place_as p ≡ harts.place hs.leader.state 0 → act_of action ≡ next_act (map act_of (drop k actions)) → hs.actions ≡ map act_of (drop k actions) →
+pub commit_is : (p : Place) (action : Action) (actions : List Action) (k : ℕ) (hs : Harts) (b : Bool) → is_commit (place_as p) (act_of action) ≡ b
+    → place_as p ≡ harts.place hs.leader.state 0 → act_of action ≡ next_act (map act_of (drop k actions)) → hs.actions ≡ map act_of (drop k actions) →
     is_commit (move hs.leader.state (next_act hs.actions) hs.under 0).place (next_act hs.actions) ≡ b
 commit_is p action actions k hs b e at act are =
     ap (λ q. is_commit q (next_act hs.actions)) (move_place hs.leader.state (next_act hs.actions) hs.under ∙ sym at) ∙ ap (is_commit (place_as p)) (ap next_act are ∙ sym act) ∙ e
@@ -349,19 +361,29 @@ lead_commits hs a m false e away d =
     ∙ ap (λ c. if c then leader_commits hs a m else leader_waits hs) away
 
 -- the commit is noted, or there is no memory for that
-pub lead_noted : {T E : Type 0} (image : Fields) (actions : List Action) (bytes : ℕ → List ℕ) (x : Beside) (was mid is : Group) (hs : Harts) (a : Act) (m : Move) → Shows image actions bytes was hs → was.leader.stop ≡ None → ((f : Bool) × IsDevice m f × Reaches image actions 0 bytes x was mid hs (leader_acts hs a m f)) → is_commit m.place a ≡ true → all_away hs.others ≡ true →
-    (r : Result T E) → OnOk r ((image : Fields) (actions : List Action) (bytes : ℕ → List ℕ) (hs : Harts) → Shows image actions bytes mid hs → Shows image actions bytes is (committed hs)) → is.leader ≡ mid.leader → OnOk r (Pairs (λ n. IsFreed) mid.others.items is.others.items) →
+pub lead_noted : {T E : Type 0} (image : Fields) (actions : List Action) (bytes : ℕ → List ℕ) (x : Beside) (was mid is : Group) (hs : Harts) (a : Act)
+    (m : Move) → Shows image actions bytes was hs → was.leader.stop ≡ None
+    → ((f : Bool) × IsDevice m f × Reaches image actions 0 bytes x was mid hs (leader_acts hs a m f)) → is_commit m.place a ≡ true → all_away hs.others ≡ true →
+    (r : Result T E) → OnOk r ((image : Fields) (actions : List Action) (bytes : ℕ → List ℕ) (hs : Harts) → Shows image actions bytes mid hs
+    → Shows image actions bytes is (committed hs)) → is.leader ≡ mid.leader → OnOk r (Pairs (λ n. IsFreed) mid.others.items is.others.items) →
     Turned image actions 0 bytes x was is hs MayFail (leader_by hs a m) r
 lead_noted image actions bytes x was mid is hs a m shown on go commits away (Ok done) shows same frees =
-    let hs1 = leader_acts hs a m go.0 in
-    (go.0, tt, subst (λ hs'. Reaches image actions 0 bytes x was is hs hs') (sym (lead_commits hs a m go.0 commits away go.1)) (reaches_committed image actions bytes x was mid is hs hs1 go.2 (λ after h. shows image actions after hs1 h) same frees))
+    let hs1 = leader_acts hs a m go.0 in (
+      go.0,
+      tt,
+      subst (λ hs'. Reaches image actions 0 bytes x was is hs hs') (sym (lead_commits hs a m go.0 commits away go.1))
+          (reaches_committed image actions bytes x was mid is hs hs1 go.2 (λ after h. shows image actions after hs1 h) same frees),
+    )
 lead_noted image actions bytes x was mid is hs a m shown on go commits away (Err error) shows same frees =
     (go.0, tt, subst (λ hs'. Refused 0 x hs hs') (sym (lead_commits hs a m go.0 commits away go.1)) (note_refused image actions bytes x was mid hs a m go.0 shown on go.2))
 
-pub lead_refused : (x : Beside) (hs : Harts) (a : Act) (m : Move) → ((f : Bool) × IsDevice m f × Refused 0 x hs (leader_acts hs a m f)) → is_commit m.place a ≡ true → all_away hs.others ≡ true → (f : Bool) × MayFail f × Refused 0 x hs (leader_by hs a m f)
+pub lead_refused : (x : Beside) (hs : Harts) (a : Act) (m : Move) → ((f : Bool) × IsDevice m f × Refused 0 x hs (leader_acts hs a m f))
+    → is_commit m.place a ≡ true → all_away hs.others ≡ true → (f : Bool) × MayFail f × Refused 0 x hs (leader_by hs a m f)
 lead_refused x hs a m go commits away = (go.0, tt, subst (λ hs'. Refused 0 x hs hs') (sym (lead_commits hs a m go.0 commits away go.1)) (refused_committed x hs (leader_acts hs a m go.0) go.2))
 
-pub waits_ok : (image : Fields) (actions : List Action) (bytes : ℕ → List ℕ) (x : Beside) (was is : Group) (hs : Harts) (a : Act) (m : Move) → is_commit m.place a ≡ true → all_away hs.others ≡ false → x.left ≡ Some (bytes 0) → x.new_written ≡ x.old_written → x.new_way ≡ x.old_way → SameCounts x → Shows image actions bytes is (leader_waits hs) →
+pub waits_ok : (image : Fields) (actions : List Action) (bytes : ℕ → List ℕ) (x : Beside) (was is : Group) (hs : Harts) (a : Act) (m : Move)
+    → is_commit m.place a ≡ true → all_away hs.others ≡ false → x.left ≡ Some (bytes 0) → x.new_written ≡ x.old_written → x.new_way ≡ x.old_way
+    → SameCounts x → Shows image actions bytes is (leader_waits hs) →
     is.leader.stop ≡ was.leader.stop → is.others ≡ was.others → (f : Bool) × MayFail f × Reaches image actions 0 bytes x was is hs (leader_by hs a m f)
 waits_ok image actions bytes x was is hs a m test away left written way counts shows stop others =
     (false, tt, subst (λ hs'. Reaches image actions 0 bytes x was is hs hs') (sym (lead_waits hs a m false test away)) (reaches_waits image actions bytes x was is hs left written way counts shows stop others))

@@ -6,13 +6,7 @@ use Rattle.std.proofs.lemmas.Option.{slice_get-map}
 use Rattle.std.proofs.lemmas.List.Sums.{sum_by-cons}
 use Rattle.mv_num.proofs.Lists.{set_there}
 use Rattle.mv_harts_turns.specs.Pairs.{Both, Pairs}
-
-pub set_other : {A : Type 0} (xs : List A) (n m : ℕ) (y : A) → m ≢ n → slice_get (set xs n y) m ≡ slice_get xs m
-set_other [] n m y ne = refl
-set_other (x ∷ xs) zero zero y ne = absurd (ne refl)
-set_other (x ∷ xs) zero (suc m) y ne = refl
-set_other (x ∷ xs) (suc n) zero y ne = refl
-set_other (x ∷ xs) (suc n) (suc m) y ne = set_other xs n m y (λ e. ne (ap suc e))
+use Rattle.mv_harts_runs.proofs.Lists.{set_other}
 
 -- ---- agreement
 

@@ -9,6 +9,7 @@ use Rattle.mv_isa.specs.declared.instr.Instr.{Instr}
 use Rattle.mv_isa.specs.declared.instr.Instr.TheVariants.{Sb, Sh, Sw}
 use Rattle.mv_machine.specs.Runs.{State}
 use Rattle.mv_harts_runs.specs.Harts.{Hart, Harts, Move, Store, store_of, outside_of, move, place, is_outside, told, shared, left_behind, fails}
+use Rattle.mv_harts_runs.proofs.Leader.{shared_none}
 use Rattle.mv_harts_one.specs.declared.seat.Seat.{Seat}
 use Rattle.mv_harts_one.specs.Seats.{Sits}
 use Rattle.std.proofs.lemmas.Bool.{cases_eq}
@@ -16,7 +17,7 @@ use Rattle.std.specs.Prelude.{option_and_then, slice_set, IsErrAnd, MatchResult}
 use Rattle.mv_harts_turns.specs.declared.group.Group.{Group}
 use Rattle.mv_harts_turns.specs.Groups.{AreTaken, IsSeat, Shows, Beside, WasAsked, IsDevice, TookStore, SameStop, SameStops, SameCounts, Fares, Reaches, Refused, Turned, acted, under_behind, asked, seat_at, output_of, output, leader_acts, other_acts}
 use Rattle.mv_harts_turns.proofs.Places.{both_weaker}
-use Rattle.mv_harts_turns.proofs.Seats.{shared_none, shared_taken, shared_output}
+use Rattle.mv_harts_turns.proofs.Seats.{shared_taken, shared_output}
 
 -- ---- lists and options
 
@@ -99,7 +100,8 @@ output_shared st None = refl
 output_shared st (Some o) = shared_output st o
 
 -- a seat that took a store is the hart that did
-pub seat_took : (image : Fields) (commits : List (List Binding)) (n : ℕ) (old new : List ℕ) (st : Option Store) (was is : Seat) (o : Hart) → new ≡ old → TookStore st was is → IsSeat image commits n old was o → IsSeat image commits n new is (shared st o)
+pub seat_took : (image : Fields) (commits : List (List Binding)) (n : ℕ) (old new : List ℕ) (st : Option Store) (was is : Seat) (o : Hart) → new ≡ old
+    → TookStore st was is → IsSeat image commits n old was o → IsSeat image commits n new is (shared st o)
 seat_took image commits n old new st was is o e q r = record {
   same_image = q.image ∙ r.same_image;
   sits = subst (λ bytes. Sits n is bytes (shared st o)) (sym e) (q.sits n old o r.sits);
@@ -114,7 +116,9 @@ seat_bytes image commits n old new seat o e h = subst (λ bytes. IsSeat image co
 pub shows_bytes : (image : Fields) (actions : List Action) (bytes after : ℕ → List ℕ) (group : Group) (hs : Harts) → ((h : ℕ) → after h ≡ bytes h) → Shows image actions bytes group hs → Shows image actions after group hs
 shows_bytes image actions bytes after group hs e h = record {
   leader = seat_bytes image hs.commits 0 (bytes 0) (after 0) group.leader hs.leader (e 0) h.leader;
-  others = λ n. both_weaker (IsSeat image hs.commits (suc n) (bytes (suc n))) (IsSeat image hs.commits (suc n) (after (suc n))) (λ seat o r. seat_bytes image hs.commits (suc n) (bytes (suc n)) (after (suc n)) seat o (e (suc n)) r) (slice_get group.others.items n) (slice_get hs.others n) (h.others n);
+  others = λ n. both_weaker (IsSeat image hs.commits (suc n) (bytes (suc n))) (IsSeat image hs.commits (suc n) (after (suc n)))
+      (λ seat o r. seat_bytes image hs.commits (suc n) (bytes (suc n)) (after (suc n)) seat o (e (suc n)) r) (slice_get group.others.items n)
+      (slice_get hs.others n) (h.others n);
   actions_are = h.actions_are;
   wanted = h.wanted;
   under = h.under;
@@ -122,12 +126,14 @@ shows_bytes image actions bytes after group hs e h = record {
 }
 
 -- a turn by another name
-pub turned_map : {T E : Type 0} (image : Fields) (actions : List Action) (hart : ℕ) (bytes : ℕ → List ℕ) (x : Beside) (was is : Group) (hs : Harts) (F G : Bool → Type 0) (t u : Bool → Harts) → ((f : Bool) → F f → G f × (t f ≡ u f)) → (r : Result T E) →
+pub turned_map : {T E : Type 0} (image : Fields) (actions : List Action) (hart : ℕ) (bytes : ℕ → List ℕ) (x : Beside) (was is : Group) (hs : Harts)
+    (F G : Bool → Type 0) (t u : Bool → Harts) → ((f : Bool) → F f → G f × (t f ≡ u f)) → (r : Result T E) →
     Turned image actions hart bytes x was is hs F t r → Turned image actions hart bytes x was is hs G u r
 turned_map image actions hart bytes x was is hs F G t u h (Ok done) y = (y.0, (h y.0 y.1).0, subst (λ hs'. Reaches image actions hart bytes x was is hs hs') (h y.0 y.1).1 y.2)
 turned_map image actions hart bytes x was is hs F G t u h (Err error) y = (y.0, (h y.0 y.1).0, subst (λ hs'. Refused hart x hs hs') (h y.0 y.1).1 y.2)
 
-pub turned_err : {T E : Type 0} (image : Fields) (actions : List Action) (hart : ℕ) (bytes : ℕ → List ℕ) (x : Beside) (was is : Group) (hs : Harts) (F : Bool → Type 0) (t : Bool → Harts) (r : Result T E) (R : E → Type 0) → IsErrAnd r R → (f : Bool) → F f → Refused hart x hs (t f) →
+pub turned_err : {T E : Type 0} (image : Fields) (actions : List Action) (hart : ℕ) (bytes : ℕ → List ℕ) (x : Beside) (was is : Group) (hs : Harts)
+    (F : Bool → Type 0) (t : Bool → Harts) (r : Result T E) (R : E → Type 0) → IsErrAnd r R → (f : Bool) → F f → Refused hart x hs (t f) →
     Turned image actions hart bytes x was is hs F t r
 turned_err image actions hart bytes x was is hs F t (Ok done) R h f fits q = absurd h
 turned_err image actions hart bytes x was is hs F t (Err e) R h f fits q = (f, fits, q)

@@ -16,19 +16,21 @@ use Rattle.mv_machine.specs.Moves.{input_failed, output_failed}
 use Rattle.mv_machine.specs.Runs as runs
 use Rattle.mv_harts_runs.specs.Harts.{Hart, Harts, Turn, first_harts, others_from, first_of, hart_from, harts_after, turn_of}
 use Rattle.mv_harts_runs.specs.Alone.{Passes, HartsAreRight, IsRight, IsWell}
+use Rattle.mv_harts_runs.proofs.Lists.{set_other, others_length}
 use Rattle.mv_harts_one.specs.declared.seat.Seat.{Seat}
 use Rattle.mv_harts_one.specs.Seats.{has_failed}
 use Rattle.mv_harts_turns.specs.Pairs.{Both}
 use Rattle.mv_harts_turns.specs.declared.group.Group.{Group}
 use Rattle.mv_harts_turns.specs.Groups.{IsSeat, Shows, FetchesAre, SameStop, SameCounts, Counts, Fares, FaresBy, StandsAs, Stands, Beside, Advanced, Reaches, Refused, Wrote, WroteIn, MayFail, asked, asked_by, hart_at, seat_at, output, output_of, beside}
 use Rattle.mv_harts_turns.specs.Runs.{turns_by, Outside, outside, bytes_of, inputs_of, harts_of, CountsOf, stands, FaultsOfAll, AlwaysFetch, GotAll, Ran, Broken, IsReadyFor}
-use Rattle.mv_harts_turns.proofs.Places.{both_left, both_weaker, set_other}
+use Rattle.mv_harts_turns.proofs.Places.{both_left, both_weaker}
 use Rattle.mv_harts_turns.proofs.Reaching.{grew_nothing, way_none}
 use Rattle.mv_harts_turns.proofs.Standing.{CountsOfHart, CountsOfAll, counts_unfailed, faults_told, ran_counts}
 
 -- ---- turns
 
-turns_more : (schedule : List ℕ) (failing : List Bool) (h : ℕ) (f : Bool) → length failing ≡ length schedule → turns_by (schedule ++ h ∷ []) (failing ++ f ∷ []) ≡ turns_by schedule failing ++ (record { hart = h; pick = 0; failing = f }) ∷ []
+turns_more : (schedule : List ℕ) (failing : List Bool) (h : ℕ) (f : Bool) → length failing ≡ length schedule
+    → turns_by (schedule ++ h ∷ []) (failing ++ f ∷ []) ≡ turns_by schedule failing ++ (record { hart = h; pick = 0; failing = f }) ∷ []
 turns_more [] [] h f e = refl
 turns_more [] (g ∷ failing) h f e = absurd (omega (arith, e))
 turns_more (i ∷ schedule) [] h f e = absurd (omega (arith, e))
@@ -281,7 +283,9 @@ module _ (image : Fields) (actions : List Action) (count : ℕ) (was is is' : Ou
             told = told_more;
             shows = subst (λ hs. Shows image actions (bytes_of is') group' hs) (sym e) (reach.shows (bytes_of is') (told_is (is'.left h) reach.rest (n.left ∙ reach.left_is)) (λ j ne. ap (λ o. unwrap_or o []) (n.left_rest j ne)));
             written = subst (λ hs. GotAll was is' hs) (sym e) (got_more reach.more reach.wrote reach.written);
-            way_is = subst (λ hs. is'.way ≡ option_map (λ w. way_after w (asked hs)) was.way) (sym e) (way_joins was.way is.way is'.way (asked now) reach.steps (asked then') reach.counted r.way_is (n.new_way ∙ reach.way_is ∙ ap (option_map (λ w. way_after w reach.steps)) (sym n.old_way)));
+            way_is = subst (λ hs. is'.way ≡ option_map (λ w. way_after w (asked hs)) was.way) (sym e)
+                (way_joins was.way is.way is'.way (asked now) reach.steps (asked then') reach.counted r.way_is
+                (n.new_way ∙ reach.way_is ∙ ap (option_map (λ w. way_after w reach.steps)) (sym n.old_way)));
             few = subst (λ hs. asked hs ≤ length (schedule ++ h ∷ [])) (sym e) (omega (arith, reach.counted, reach.few, r.few, length-append schedule (h ∷ [])));
             counts = counts_more;
             later_inputs = λ j. omega (arith, r.later_inputs j, later_in j);
@@ -298,7 +302,8 @@ module _ (image : Fields) (actions : List Action) (count : ℕ) (was is is' : Ou
           within = omega arith;
           failing = r.failing;
           paired = r.paired ∙ len;
-          written = subst (λ l. GotAll was is' (harts_of image actions count was l r.failing)) part (got_same (q.written ∙ ap (λ m. option_map (λ before. before ++ m) x.old_written) e.0 ∙ sym (grew_nothing x.old_written x.old_written refl)));
+          written = subst (λ l. GotAll was is' (harts_of image actions count was l r.failing)) part
+              (got_same (q.written ∙ ap (λ m. option_map (λ before. before ++ m) x.old_written) e.0 ∙ sym (grew_nothing x.old_written x.old_written refl)));
           faults = subst (λ l. FaultsOfAll was is' (harts_of image actions count was l r.failing)) part (faults_told was is' now (counts_same e.1));
           later_inputs = λ j. omega (arith, r.later_inputs j, later_in j);
           later_outputs = λ j. omega (arith, r.later_outputs j, later_out j);
@@ -318,7 +323,8 @@ module _ (image : Fields) (actions : List Action) (count : ℕ) (was is is' : Ou
 
 -- ---- at the next place of a schedule
 
-module _ (image : Fields) (actions : List Action) (count : ℕ) (was is is' : Outside) (schedule : List ℕ) (i h : ℕ) (group group' : Group) (x : Beside) (r : Ran image actions count (take i schedule) was is group) (lt : i < length schedule) (at : slice_get schedule i ≡ Some h) (n : Next h x is is') where
+module _ (image : Fields) (actions : List Action) (count : ℕ) (was is is' : Outside) (schedule : List ℕ) (i h : ℕ) (group group' : Group) (x : Beside)
+    (r : Ran image actions count (take i schedule) was is group) (lt : i < length schedule) (at : slice_get schedule i ≡ Some h) (n : Next h x is is') where
   abbrev so_far : Harts
   so_far = harts_of image actions count was (take i schedule) r.failing
 
@@ -331,7 +337,8 @@ module _ (image : Fields) (actions : List Action) (count : ℕ) (was is is' : Ou
   pub broke_next : ((f : Bool) × MayFail f × Refused h x so_far (turn_of so_far h 0 f)) → Broken image actions count schedule was is'
   broke_next t = broke image actions count was is is' (take i schedule) h group group' x r t.0 n schedule i refl longer (omega arith) (length-take-le i schedule (omega arith)) t.2
 
-pub ran_whole : (image : Fields) (actions : List Action) (count : ℕ) (was is : Outside) (schedule : List ℕ) (i : ℕ) (group : Group) → length schedule ≤ i → Ran image actions count (take i schedule) was is group → Ran image actions count schedule was is group
+pub ran_whole : (image : Fields) (actions : List Action) (count : ℕ) (was is : Outside) (schedule : List ℕ) (i : ℕ) (group : Group)
+    → length schedule ≤ i → Ran image actions count (take i schedule) was is group → Ran image actions count schedule was is group
 ran_whole image actions count was is schedule i group le r = subst (λ l. Ran image actions count l was is group) (take_all i schedule le) r
 
 -- ---- a group that is as it was
@@ -340,7 +347,8 @@ stands_seats : (group group' : Group) → Stands group group' → length group.o
 stands_seats group group' s = same_length (λ n (x y : Seat). Unit {0}) group.others.items group'.others.items
     (λ n. both_weaker (λ (x y : Seat). y.stop ≡ x.stop) (λ x y. Unit {0}) (λ x y e. tt) (slice_get group.others.items n) (slice_get group'.others.items n) (s.stops (suc n)))
 
-pub ran_stands : (image : Fields) (actions : List Action) (count : ℕ) (was is is' : Outside) (schedule : List ℕ) (group group' : Group) → Stands group group' → is' ≡ is → Ran image actions count schedule was is group → Ran image actions count schedule was is' group'
+pub ran_stands : (image : Fields) (actions : List Action) (count : ℕ) (was is is' : Outside) (schedule : List ℕ) (group group' : Group)
+    → Stands group group' → is' ≡ is → Ran image actions count schedule was is group → Ran image actions count schedule was is' group'
 ran_stands image actions count was is is' schedule group group' s e r = subst (λ y. Ran image actions count schedule was y group') (sym e) (record {
   failing = r.failing;
   paired = r.paired;
@@ -381,7 +389,8 @@ ran_all image actions count was is schedule i j group le le' r = subst (λ l. Ra
 
 -- ---- what the premises say
 
-pub told_all : {S : Type 0} (left : S → Option (List ℕ)) (sources : List S) → All (λ s. IsSome (left s)) sources → (h : ℕ) → h < length sources → option_and_then left (slice_get sources h) ≡ Some (unwrap_or (option_and_then left (slice_get sources h)) [])
+pub told_all : {S : Type 0} (left : S → Option (List ℕ)) (sources : List S) → All (λ s. IsSome (left s)) sources → (h : ℕ) → h < length sources
+    → option_and_then left (slice_get sources h) ≡ Some (unwrap_or (option_and_then left (slice_get sources h)) [])
 told_all left sources all h lt =
     let s = there_at sources h lt in
     let is : IsSome (left s.0) = subst (λ t. IsSome (left t)) (get_or_from_slice_get sources h s.0 s.0 s.1) (all h s.0 lt) in
@@ -412,10 +421,6 @@ pub right_now : HartsAreRight → (image : Fields) (actions : List Action) (coun
 right_now law image actions count was schedule failing ready = law image (inputs_of was) ready.0 ready.1 (count - 1) (map act_of actions) ready.2 (turns_by schedule failing)
 
 -- ---- the start
-
-others_length : (n : ℕ) (image : Fields) (input : ℕ → List (Option ℕ)) (count : ℕ) → length (others_from n image input count) ≡ count
-others_length n image input zero = refl
-others_length n image input (suc count) = ap suc (others_length (suc n) image input count)
 
 -- a hart that has done nothing
 record IsFresh (o : Hart) : Type 0 where
@@ -467,7 +472,8 @@ not_fault j was seat e = record {
   writing = count_kept (output_failed seat.stop) (was.outputs j) (was.outputs j) refl;
 }
 
-pub first_length : (image : Fields) (actions : List Action) (bytes : ℕ → List ℕ) (group : Group) (input : ℕ → List (Option ℕ)) (count : ℕ) (acts : List Act) → Shows image actions bytes group (first_harts image input count acts) → length group.others.items ≡ count
+pub first_length : (image : Fields) (actions : List Action) (bytes : ℕ → List ℕ) (group : Group) (input : ℕ → List (Option ℕ)) (count : ℕ)
+    (acts : List Act) → Shows image actions bytes group (first_harts image input count acts) → length group.others.items ≡ count
 first_length image actions bytes group input count acts h = same_length (λ n. IsSeat image [] (suc n) (bytes (suc n))) group.others.items (others_from 1 image input count) h.others ∙ others_length 1 image input count
 
 pub ran_none : (image : Fields) (actions : List Action) (count : ℕ) (was : Outside) (group : Group) → 1 ≤ count → ((h : ℕ) → h < count → was.left h ≡ Some (bytes_of was h)) →

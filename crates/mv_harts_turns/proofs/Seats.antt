@@ -1,5 +1,6 @@
 -- Seats and harts.
 use Rattle.std.proofs.Common.{◌≡◌, ℕ, suc, Bool, true, false, not, ◌&&◌, ◌||◌, if◌then◌else◌, List, [], ◌∷◌, ◌++◌, Option, Some, None, is_some, refl, sym, ap, ◌∙◌, subst}
+use Rattle.std.proofs.Math.Bool.{not-not}
 use Rattle.mv_bindings.specs.declared.binding.Binding.{Binding}
 use Rattle.mv_bindings.specs.Acts.{Act}
 use Rattle.mv_image.specs.Spelling.{Fields}
@@ -8,7 +9,7 @@ use Rattle.mv_machine.specs.declared.machine.Stopped.{Stopped}
 use Rattle.mv_machine.specs.declared.machine.Stopped.TheVariants as answer
 use Rattle.mv_machine.specs.Runs.{State, is_going}
 use Rattle.mv_harts_runs.specs.Harts as harts
-use Rattle.mv_harts_runs.specs.Harts.{Hart, Store, is_on, is_away, all_away, shared, shared_room, freed}
+use Rattle.mv_harts_runs.specs.Harts.{Hart, Store, is_on, is_away, all_away, shared, shared_room}
 use Rattle.mv_harts_one.specs.declared.seat.Seat.{Seat}
 use Rattle.mv_harts_one.specs.declared.seat.Mode.{Mode}
 use Rattle.mv_harts_one.specs.declared.seat.Mode.TheVariants as mode
@@ -78,13 +79,9 @@ parked_is mode.Runs = refl
 parked_is mode.Parked = refl
 parked_is mode.Freed = refl
 
-away_by : (b : Bool) → not (not b) ≡ b
-away_by true = refl
-away_by false = refl
-
 pub away_is : (n : ℕ) (seat : Seat) (bytes : List ℕ) (o : Hart) → Sits n seat bytes o → is_seat_away seat ≡ is_away o
 away_is n seat bytes o h =
-    let on : not (is_on o) ≡ is_some seat.stop = ap not (on_is n seat bytes o h) ∙ away_by (is_some seat.stop) in
+    let on : not (is_on o) ≡ is_some seat.stop = ap not (on_is n seat bytes o h) ∙ not-not (is_some seat.stop) in
     let parked : harts.is_parked o.mode ≡ is_parked seat.mode = ap harts.is_parked h.mode ∙ parked_is seat.mode in
     sym (ap (λ b. b || harts.is_parked o.mode) on ∙ ap (λ b. is_some seat.stop || b) parked)
 
@@ -98,14 +95,6 @@ all_away_is image commits number bytes (seat ∷ seats) (o ∷ os) h =
     ∙ ap (λ b. is_away o && b) (all_away_is image commits (λ n. number (suc n)) (λ n. bytes (suc n)) seats os (λ n. h (suc n)))
 
 -- ---- what a store of another hart, and a commit, leave as it was
-
-pub shared_none : (o : Hart) → shared None o ≡ o
-unfolding shared_room
-shared_none o = by_on (is_on o)
-  where
-    by_on : (b : Bool) → (if b then o else o) ≡ o
-    by_on true = refl
-    by_on false = refl
 
 pub shared_taken : (st : Option Store) (o : Hart) → (shared st o).taken ≡ o.taken
 shared_taken st o = by_on (is_on o)

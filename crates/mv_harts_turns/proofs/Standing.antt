@@ -1,6 +1,7 @@
 -- How harts stand to their devices.
 use Rattle.std.proofs.Common.{◌≡◌, ℕ, zero, suc, Bool, true, false, not, ◌&&◌, if◌then◌else◌, List, map, slice_get, Option, Some, None, option_map, refl, sym, ap, ◌∙◌, subst}
 use Rattle.std.proofs.lemmas.Option.{slice_get-map}
+use Rattle.std.proofs.Math.Bool.{and-false}
 use Rattle.mv_bindings.specs.declared.action.Action.{Action}
 use Rattle.mv_bindings.specs.declared.binding.Binding.{Binding}
 use Rattle.mv_image.specs.Spelling.{Fields}
@@ -24,11 +25,7 @@ stays o stop h = h
 pub all_stay : (p : Option Hart) → Both StandsAs p p
 all_stay p = both_same StandsAs stays p
 
-never : (b : Bool) → (b && false) ≡ false
-never true = refl
-never false = refl
-
-shared_failed : (st : Option Store) (o : Hart) → (shared st o).failed ≡ o.failed
+pub shared_failed : (st : Option Store) (o : Hart) → (shared st o).failed ≡ o.failed
 shared_failed st o = by_on (is_on o)
   where
     by_on : (b : Bool) → (if b then record o { state = record o.state { room = shared_room st o.state.room } } else o).failed ≡ o.failed
@@ -41,7 +38,7 @@ shared_stands st o = by_stop
   where
     kept : (stop : Option Stopped) → o.failed ≡ true → HasStop stop o → HasStop stop (shared st o)
     kept stop e h =
-        let off : is_on o ≡ false = ap (λ b. is_going o.state.stop && not b) e ∙ never (is_going o.state.stop) in
+        let off : is_on o ≡ false = ap (λ b. is_going o.state.stop && not b) e ∙ and-false (is_going o.state.stop) in
         subst (HasStop stop) (sym (ap (λ b. if b then record o { state = record o.state { room = shared_room st o.state.room } } else o) off)) h
 
     by_stop : (stop : Option Stopped) → HasStop stop o → HasStop stop (shared st o)
@@ -92,7 +89,8 @@ pub fares_none : (x : Beside) (was is : Hart) → was.failed ≡ false → is.fa
 fares_none x was is on still same = (on, record { stop = None; has_stop = (still, tt); counts = counts_none x.old_inputs x.new_inputs x.old_outputs x.new_outputs same.0 same.1 })
 
 -- and in one behind which it is that seat
-pub fares_by : (image : Fields) (commits : List (List Binding)) (number : ℕ) (bytes : List ℕ) (x : Beside) (seat : Seat) (was is : Hart) → was.failed ≡ false → IsSeat image commits number bytes seat is → Counted x seat.stop → FaresBy x was is
+pub fares_by : (image : Fields) (commits : List (List Binding)) (number : ℕ) (bytes : List ℕ) (x : Beside) (seat : Seat) (was is : Hart)
+    → was.failed ≡ false → IsSeat image commits number bytes seat is → Counted x seat.stop → FaresBy x was is
 fares_by image commits number bytes x seat was is on s counts = (on, record { stop = seat.stop; has_stop = (s.sits.failed, s.sits.before); counts = counts })
 
 -- in terms of the hart alone
@@ -117,7 +115,8 @@ pub faults_told : (was is : Outside) (hs : Harts) → CountsOfAll was is hs → 
 faults_told was is hs c h o at = let k = c h o at in told h was is o k.stop k.has_stop k.counts
 
 -- a hart of a group stands as its seat says
-stands_at : (image : Fields) (actions : List Action) (bytes : ℕ → List ℕ) (group : Group) (hs : Harts) → Shows image actions bytes group hs → (h : ℕ) (o : Hart) → hart_at h hs ≡ Some o → (seat : Seat) × (seat_at h group ≡ Some seat) × HasStop seat.stop o
+stands_at : (image : Fields) (actions : List Action) (bytes : ℕ → List ℕ) (group : Group) (hs : Harts) → Shows image actions bytes group hs
+    → (h : ℕ) (o : Hart) → hart_at h hs ≡ Some o → (seat : Seat) × (seat_at h group ≡ Some seat) × HasStop seat.stop o
 stands_at image actions bytes group hs s zero o e =
     let same : hs.leader ≡ o = cc in
     (group.leader, refl, subst (HasStop group.leader.stop) same (s.leader.sits.failed, s.leader.sits.before))
@@ -126,7 +125,8 @@ stands_at image actions bytes group hs s (suc n) o e =
     (at.0, at.1, (at.2.sits.failed, at.2.sits.before))
 
 -- so the counts are by how each hart stands
-pub ran_counts : (image : Fields) (actions : List Action) (count : ℕ) (schedule : List ℕ) (was is : Outside) (group : Group) → (r : Ran image actions count schedule was is group) → CountsOfAll was is (harts_of image actions count was schedule r.failing)
+pub ran_counts : (image : Fields) (actions : List Action) (count : ℕ) (schedule : List ℕ) (was is : Outside) (group : Group)
+    → (r : Ran image actions count schedule was is group) → CountsOfAll was is (harts_of image actions count was schedule r.failing)
 ran_counts image actions count schedule was is group r h o at =
     let s = stands_at image actions (bytes_of is) group (harts_of image actions count was schedule r.failing) r.shows h o at in
     record { stop = s.0.stop; has_stop = s.2; counts = r.counts h s.0 s.1 }

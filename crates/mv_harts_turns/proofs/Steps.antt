@@ -1,5 +1,5 @@
 -- One instruction of a seat is one of its hart.
-use Rattle.std.proofs.Common.{◌≡◌, ◌⊎◌, inl, inr, ℕ, ◌+◌, Bool, true, false, if◌then◌else◌, List, [], ◌∷◌, ◌++◌, Option, Some, None, refl, sym, ap, ◌∙◌, arith, subst}
+use Rattle.std.proofs.Common.{◌≡◌, ◌⊎◌, inl, inr, ℕ, ◌+◌, Bool, true, false, List, [], ◌∷◌, ◌++◌, Option, Some, None, refl, sym, ap, ◌∙◌, arith, subst}
 use Rattle.mv_bindings.specs.declared.binding.Binding.{Binding}
 use Rattle.mv_bindings.specs.Acts.{Act, Skip}
 use Rattle.mv_image.specs.Spelling.{Fields}
@@ -19,6 +19,7 @@ use Rattle.mv_harts_turns.specs.Polls.{IsNoted}
 use Rattle.mv_harts_turns.proofs.Reaching.{nothing, grew_nothing}
 use Rattle.mv_harts_turns.proofs.Seats.{not_failed, taken_append, noted, seat_noted}
 use Rattle.mv_harts_turns.proofs.Standing.{counts_unfailed}
+use Rattle.mv_num.specs.Words.{as_word}
 
 poll_only : (p : Place) → (p ≡ place.AtPoll → ⊥) → (a : Act) (acts : List Act) → took (place_as p) a acts ≡ acts
 poll_only place.AtOrder ne a acts = refl
@@ -56,11 +57,8 @@ module _ (image : Fields) (commits : List (List Binding)) (n : ℕ) (o : Hart) (
     took = subst (λ acts. AreTaken commits seat.taken acts) (sym same) (subst (λ ts. AreTaken commits ts o.taken) (sym h.same_taken) h.was_is.took);
   }
 
-  abbrev flag : Bool → ℕ
-  flag b = if b then 1 else 0
-
   quiet_count : o.failed ≡ false → asked_by (fails o) ≡ asked_by o + 1
-  quiet_count e = let f : flag o.failed ≡ 0 = ap flag e in omega (arith, f)
+  quiet_count e = let f : as_word o.failed ≡ 0 = ap as_word e in omega (arith, f)
 
   broke_step : (bytes : List ℕ) (was seat : Seat) (b : Bool) → Near bytes was seat b → HasFailed n o m seat ub b bytes x.left x.old_written x.new_written (input_rose x) (output_rose x) → Stepped image commits n o a m under x seat b
   broke_step bytes was seat b h e = record {
@@ -125,7 +123,8 @@ module _ (image : Fields) (commits : List (List Binding)) (n : ℕ) (o : Hart) (
   no_break at bytes seat b e = let d : Elsewhere ≡ AtPoll = sym e.place ∙ at in absurd (cc)
 
   -- at a poll, which is noted
-  pub stepped_poll : place_as place.AtPoll ≡ m.place → (t : Taken) → IsNoted t a → (bytes : List ℕ) (was seat : Seat) (b : Bool) (ts : List Taken) → ts ≡ seat.taken ++ t ∷ [] → Near bytes was seat b → Stepped image commits n o a m under x (record seat { taken = ts }) b
+  pub stepped_poll : place_as place.AtPoll ≡ m.place → (t : Taken) → IsNoted t a → (bytes : List ℕ) (was seat : Seat) (b : Bool) (ts : List Taken)
+      → ts ≡ seat.taken ++ t ∷ [] → Near bytes was seat b → Stepped image commits n o a m under x (record seat { taken = ts }) b
   stepped_poll at t note bytes was seat b ts more h = subst (λ l. Stepped image commits n o a m under x (record seat { taken = l }) b) (sym more) (by_did h.did)
     where
       taken : took m.place a o.taken ≡ o.taken ++ a ∷ []
@@ -134,7 +133,9 @@ module _ (image : Fields) (commits : List (List Binding)) (n : ℕ) (o : Hart) (
       now : AreTaken commits (seat.taken ++ t ∷ []) (took m.place a o.taken)
       now = subst (λ acts. AreTaken commits (seat.taken ++ t ∷ []) acts) (sym taken) (taken_append commits seat.taken o.taken t a (subst (λ ts. AreTaken commits ts o.taken) (sym h.same_taken) h.was_is.took) (noted commits t a note))
 
-      by_did : HasExecuted n o a m seat b x.left x.old_written x.new_written ⊎ HasFailed n o m seat ub b bytes x.left x.old_written x.new_written (input_rose x) (output_rose x) → Stepped image commits n o a m under x (record seat { taken = seat.taken ++ t ∷ [] }) b
+      by_did : HasExecuted n o a m seat b x.left x.old_written x.new_written
+          ⊎ HasFailed n o m seat ub b bytes x.left x.old_written x.new_written (input_rose x) (output_rose x)
+          → Stepped image commits n o a m under x (record seat { taken = seat.taken ++ t ∷ [] }) b
       by_did (inl e) = ran_step bytes was seat b (seat.taken ++ t ∷ []) h e now
       by_did (inr e) = absurd (no_break (sym at) bytes seat b e)
 
@@ -159,7 +160,8 @@ module _ (image : Fields) (commits : List (List Binding)) (n : ℕ) (o : Hart) (
   refused_step bytes was is on same e = record { on = not_failed n was bytes o is.sits on; same_counts = same; more = []; written = grew_nothing x.old_written x.new_written e; either = inl refl }
 
 -- a poll that takes nothing
-pub skipped : (image : Fields) (commits : List (List Binding)) (n : ℕ) (o : Hart) (a : Act) (under : Option (List Binding)) (ub : Bool) (x : Beside) (bytes : List ℕ) (was seat : Seat) → IsSeat image commits n bytes was o → was.stop ≡ None → seat.stop ≡ None
+pub skipped : (image : Fields) (commits : List (List Binding)) (n : ℕ) (o : Hart) (a : Act) (under : Option (List Binding)) (ub : Bool) (x : Beside)
+    (bytes : List ℕ) (was seat : Seat) → IsSeat image commits n bytes was o → was.stop ≡ None → seat.stop ≡ None
     → seat.engine.image ≡ was.engine.image → seat.taken ≡ was.taken → is_under under ≡ ub → WasAsked x 1 → x.new_inputs ≡ x.old_inputs → x.new_outputs ≡ x.old_outputs → x.new_written ≡ x.old_written → x.left ≡ Some bytes
     → a ≡ Skip → HasExecuted n o Skip (move o.state Skip under 0) seat (is_under under) (Some bytes) x.old_written x.old_written → Near image commits n o a (move o.state a under 0) under ub x bytes was seat ub
 skipped image commits n o a under ub x bytes was seat is on still same taken flag asks inputs outputs silent left skip did =

@@ -29,7 +29,9 @@ unfolding turn_of
 other_off hs n o f there e = sym (ap (λ p. other_turn hs n p 0 f) there ∙ ap (λ b. if b then other_at hs n o 0 f else hs) e)
 
 -- the turn of a hart that has ended
-pub reaches_off : (image : Fields) (actions : List Action) (hart : ℕ) (bytes : ℕ → List ℕ) (x : Beside) (group : Group) (hs : Harts) → x.left ≡ Some (bytes hart) → x.new_written ≡ x.old_written → x.new_way ≡ x.old_way → SameCounts x → Shows image actions bytes group hs → Reaches image actions hart bytes x group group hs hs
+pub reaches_off : (image : Fields) (actions : List Action) (hart : ℕ) (bytes : ℕ → List ℕ) (x : Beside) (group : Group) (hs : Harts)
+    → x.left ≡ Some (bytes hart) → x.new_written ≡ x.old_written → x.new_way ≡ x.old_way → SameCounts x → Shows image actions bytes group hs
+    → Reaches image actions hart bytes x group group hs hs
 reaches_off image actions hart bytes x group hs left written way counts h = reaches_quiet image actions hart bytes x group group hs hs 0 (record {
   few = omega arith;
   left_is = left;
@@ -52,7 +54,8 @@ pub stop_none : (seat : Seat) (b : Bool) → b ≡ is_some seat.stop → b ≡ f
 stop_none seat b e f = none_by seat.stop (sym e ∙ f)
 
 module _ (image : Fields) (actions : List Action) (bytes : ℕ → List ℕ) (x : Beside) (was : Group) (hs : Harts) (hart : ℕ) (shown : Shows image actions bytes was hs) where
-  pub off_zero : hart ≡ 0 → x.left ≡ Some (bytes hart) → x.new_written ≡ x.old_written → x.new_way ≡ x.old_way → SameCounts x → is_some was.leader.stop ≡ true → (f : Bool) × MayFail f × Reaches image actions hart bytes x was was hs (turn_of hs hart 0 f)
+  pub off_zero : hart ≡ 0 → x.left ≡ Some (bytes hart) → x.new_written ≡ x.old_written → x.new_way ≡ x.old_way → SameCounts x
+      → is_some was.leader.stop ≡ true → (f : Bool) × MayFail f × Reaches image actions hart bytes x was was hs (turn_of hs hart 0 f)
   off_zero e left written way counts ended =
       let off : is_on hs.leader ≡ false = on_is 0 was.leader (bytes 0) hs.leader shown.leader.sits ∙ ap not ended in (
         false,
@@ -61,7 +64,9 @@ module _ (image : Fields) (actions : List Action) (bytes : ℕ → List ℕ) (x 
             (subst (λ hs'. Reaches image actions 0 bytes x was was hs hs') (leader_off hs false off) (reaches_off image actions 0 bytes x was hs (left ∙ ap (λ h. Some (bytes h)) e) written way counts shown)),
       )
 
-  pub on_zero : {T E : Type 0} (is : Group) (r : Result T E) → hart ≡ 0 → was.leader.stop ≡ None → FetchesAre hs → (choices_at hs.leader.state ≡ 1 → Turned image actions 0 bytes x was is hs MayFail (leader_turn hs 0) r) → Turned image actions hart bytes x was is hs MayFail (turn_of hs hart 0) r
+  pub on_zero : {T E : Type 0} (is : Group) (r : Result T E) → hart ≡ 0 → was.leader.stop ≡ None → FetchesAre hs
+      → (choices_at hs.leader.state ≡ 1 → Turned image actions 0 bytes x was is hs MayFail (leader_turn hs 0) r)
+      → Turned image actions hart bytes x was is hs MayFail (turn_of hs hart 0) r
   on_zero is r e stop fetches lead =
       let on : is_on hs.leader ≡ true = on_none 0 was.leader (bytes 0) hs.leader shown.leader.sits stop in
       subst (λ h. Turned image actions h bytes x was is hs MayFail (turn_of hs h 0) r) (sym e)
@@ -77,10 +82,14 @@ module _ (image : Fields) (actions : List Action) (bytes : ℕ → List ℕ) (x 
           false,
           tt,
           subst (λ h. Reaches image actions h bytes x was was hs (turn_of hs h 0 false)) (sym is_hart)
-              (subst (λ hs'. Reaches image actions (suc n) bytes x was was hs hs') (other_off hs n found.0 false found.1 off) (reaches_off image actions (suc n) bytes x was hs (left ∙ ap (λ h. Some (bytes h)) is_hart) written way counts shown)),
+              (subst (λ hs'. Reaches image actions (suc n) bytes x was was hs hs') (other_off hs n found.0 false found.1 off)
+              (reaches_off image actions (suc n) bytes x was hs (left ∙ ap (λ h. Some (bytes h)) is_hart) written way counts shown)),
         )
 
-    pub on_suc : {T E : Type 0} (is : Group) (r : Result T E) → seat.stop ≡ None → FetchesAre hs → ((o : Hart) → slice_get hs.others n ≡ Some o → choices_at o.state ≡ 1 → Turned image actions (suc n) bytes x was is hs MayFail (other_at hs n o 0) r) → Turned image actions hart bytes x was is hs MayFail (turn_of hs hart 0) r
+    pub on_suc : {T E : Type 0} (is : Group) (r : Result T E) → seat.stop ≡ None → FetchesAre hs
+        → ((o : Hart) → slice_get hs.others n ≡ Some o → choices_at o.state ≡ 1
+        → Turned image actions (suc n) bytes x was is hs MayFail (other_at hs n o 0) r)
+        → Turned image actions hart bytes x was is hs MayFail (turn_of hs hart 0) r
     on_suc is r stop fetches follow =
         let on : is_on found.0 ≡ true = on_none (suc n) seat (bytes (suc n)) found.0 found.2.sits stop in
         subst (λ h. Turned image actions h bytes x was is hs MayFail (turn_of hs h 0) r) (sym is_hart)

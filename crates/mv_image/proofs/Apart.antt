@@ -105,7 +105,9 @@ pub targets_ascend : (a : Fields) → Rules a → (j k : ℕ) (d : TargetRow) �
 targets_ascend a r j k d lt hk =
     let ws : List ℕ = image_words a in
     let n = counts_of a r in
-    let up : target_field ws j 1 + 1 ≤ target_field ws k 1 = steps (λ i. target_field ws i 1) 1 (target_rows ws) (λ i pos hi. omega (arith, target_next ws i pos (target_rule ws i 1 (image_fits a r) hi (omega arith)))) j k lt (omega (arith, n.targets, hk)) in
+    let up : target_field ws j 1 + 1 ≤ target_field ws k 1 =
+    steps (λ i. target_field ws i 1) 1 (target_rows ws)
+    (λ i pos hi. omega (arith, target_next ws i pos (target_rule ws i 1 (image_fits a r) hi (omega arith)))) j k lt (omega (arith, n.targets, hk)) in
     omega (arith, up, target_is a r j 1 d (omega (arith, lt, hk)) (omega arith), target_is a r k 1 d hk (omega arith))
 
 -- an address outside of the four words from another on, of two numbers that are these

@@ -243,7 +243,9 @@ variant_guarded ws k sums some few = and_from _ _ (and_from _ _ (le-leb _ _ some
 
 -- ---- guard rows
 
-pub guard_lowest : (ws : List ℕ) (g f i : ℕ) → guard_function ws g ≡ f → i < 6 → (i < function_field ws f 2 → is_value (kind_at ws f i) (guard_field ws g i) ≡ true) → (function_field ws f 2 ≤ i → guard_field ws g i ≡ 0) → guard_fits ws g i ≡ true
+pub guard_lowest : (ws : List ℕ) (g f i : ℕ) → guard_function ws g ≡ f → i < 6
+    → (i < function_field ws f 2 → is_value (kind_at ws f i) (guard_field ws g i) ≡ true) → (function_field ws f 2 ≤ i → guard_field ws g i ≡ 0)
+    → guard_fits ws g i ≡ true
 unfolding guard_fits
 guard_lowest ws g f i own small used unused =
     let s : ltb i 6 ≡ true = lt-ltb _ _ small in
@@ -270,7 +272,9 @@ pub site_addressed : (ws : List ℕ) (k : ℕ) → is_text_address ws (site_fiel
 unfolding site_fits
 site_addressed ws k first second more outside = and_from _ _ (and_from _ _ (and_from _ _ first second) (behind_first k _ (λ pos. le-leb _ _ (more pos)))) outside
 
-pub site_called : (ws : List ℕ) (k : ℕ) → site_field ws k 1 < function_rows ws → text_word ws (site_field ws k 0) ≡ jump 1 (site_field ws k 0) (entry_of ws (site_field ws k 1)) → text_word ws (site_field ws k 0 + 4) ≡ nop → site_fits ws k 1 ≡ true
+pub site_called : (ws : List ℕ) (k : ℕ) → site_field ws k 1 < function_rows ws
+    → text_word ws (site_field ws k 0) ≡ jump 1 (site_field ws k 0) (entry_of ws (site_field ws k 1)) → text_word ws (site_field ws k 0 + 4) ≡ nop
+    → site_fits ws k 1 ≡ true
 unfolding site_fits
 site_called ws k below call pad = and_from _ _ (and_from _ _ (lt-ltb _ _ below) (eq-eqb _ _ call)) (eq-eqb _ _ pad)
 
@@ -294,7 +298,8 @@ pub is_out_of_four : (point address : ℕ) → (address < point) ⊎ (point + 16
 is_out_of_four point address (inl before) = or_left _ _ (lt-ltb _ _ before)
 is_out_of_four point address (inr behind) = or_right _ _ (le-leb _ _ behind)
 
-pub nothing_within : (ws : List ℕ) (point : ℕ) → each_below (λ f. is_outside_four point (entry_of ws f)) (function_rows ws) ≡ true → each_below (λ k. is_outside_four point (site_field ws k 0)) (site_rows ws) ≡ true → stands_free ws point ≡ true
+pub nothing_within : (ws : List ℕ) (point : ℕ) → each_below (λ f. is_outside_four point (entry_of ws f)) (function_rows ws) ≡ true
+    → each_below (λ k. is_outside_four point (site_field ws k 0)) (site_rows ws) ≡ true → stands_free ws point ≡ true
 unfolding stands_free
 nothing_within ws point entries sites = and_from _ _ entries sites
 
@@ -308,7 +313,9 @@ pub point_called : (ws : List ℕ) (k : ℕ) → point_field ws k 1 < pointer_ro
 unfolding point_fits
 point_called ws k below slot =
     let zero_behind : point_field ws k 0 + 4 * 0 ≡ point_field ws k 0 = omega arith in
-    and_from _ _ (and_from _ _ (and_from _ _ (and_from _ _ (lt-ltb _ _ below) (eq-eqb _ _ (ap (text_word ws) (sym zero_behind) ∙ slot 0 (omega arith)))) (eq-eqb _ _ (slot 1 (omega arith)))) (eq-eqb _ _ (slot 2 (omega arith)))) (eq-eqb _ _ (slot 3 (omega arith)))
+    and_from _ _ (and_from _ _ (and_from _ _
+    (and_from _ _ (lt-ltb _ _ below) (eq-eqb _ _ (ap (text_word ws) (sym zero_behind) ∙ slot 0 (omega arith)))) (eq-eqb _ _ (slot 1 (omega arith))))
+    (eq-eqb _ _ (slot 2 (omega arith)))) (eq-eqb _ _ (slot 3 (omega arith)))
 
 -- ---- targets
 

@@ -29,7 +29,7 @@ use Rattle.mv_num.proofs.Lists.{all_tail, all_head}
 no_words : AreWords []
 no_words i = omega arith
 
-word_more : (w : ℕ) (ws : List ℕ) → w < 2 ^ 32 → AreWords ws → AreWords (w ∷ ws)
+pub word_more : (w : ℕ) (ws : List ℕ) → w < 2 ^ 32 → AreWords ws → AreWords (w ∷ ws)
 word_more w ws small fits zero = small
 word_more w ws small fits (suc i) = fits i
 
@@ -45,7 +45,7 @@ three_words a b c ha hb hc = word_more a (b ∷ c ∷ []) ha (two_words b c hb h
 four_words : (a b c d : ℕ) → a < 2 ^ 32 → b < 2 ^ 32 → c < 2 ^ 32 → d < 2 ^ 32 → AreWords (a ∷ b ∷ c ∷ d ∷ [])
 four_words a b c d ha hb hc hd = word_more a (b ∷ c ∷ d ∷ []) ha (three_words b c d hb hc hd)
 
-words_append : (a b : List ℕ) → AreWords a → AreWords b → AreWords (a ++ b)
+pub words_append : (a b : List ℕ) → AreWords a → AreWords b → AreWords (a ++ b)
 words_append [] b ha hb = hb
 words_append (x ∷ a) b ha hb = word_more x (a ++ b) (ha 0) (words_append a b (λ k. ha (suc k)) hb)
 

@@ -63,7 +63,9 @@ zeros_are image names n e len =
     let m : n ≡ length (joined image.names) = len ∙ ap length e in
     ap (λ (k : ℕ). replicate {A = ℕ} k 0) (ap (λ (k : ℕ). (4 - k % 4) % 4) m ∙ fill_is (length (joined image.names)))
 
-pub is_written : (image : Fields) (words bytes names mid zeros out : List ℕ) → words ≡ words_in image → bytes ≡ bytes_of words → names ≡ joined image.names → mid ≡ bytes ++ names → zeros ≡ replicate {A = ℕ} (filled (length (joined image.names)) - length (joined image.names)) 0 → out ≡ mid ++ zeros → out ≡ spelling image
+pub is_written : (image : Fields) (words bytes names mid zeros out : List ℕ) → words ≡ words_in image → bytes ≡ bytes_of words
+    → names ≡ joined image.names → mid ≡ bytes ++ names
+    → zeros ≡ replicate {A = ℕ} (filled (length (joined image.names)) - length (joined image.names)) 0 → out ≡ mid ++ zeros → out ≡ spelling image
 unfolding spelling
 is_written image words bytes names mid zeros out w b n m z o =
     o ∙ ap (λ (x : List ℕ). x ++ zeros) m ∙ append_assoc bytes names zeros ∙ ap (λ (x : List ℕ). x ++ (names ++ zeros)) (b ∙ ap bytes_of w)

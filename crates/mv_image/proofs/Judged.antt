@@ -39,7 +39,8 @@ words_before bytes n le room fit p lt =
     let next : offset bytes (p + 1) ≡ 4 * (p + 1) = offset-upto bytes (p + 1) (omega arith) in
     (omega (arith, next, room, lt), fits-word bytes p (omega arith) ∙ fit p lt)
 
-pub names_before : (bytes : List ℕ) (n : ℕ) → 4 * end_of bytes + n ≤ length bytes → ((k : ℕ) → k < end_of bytes → word_fits (words_of bytes) k ≡ true) → ((j : ℕ) → j < n → name_fits (words_of bytes) bytes j ≡ true) → AllBefore bytes (end_of bytes + n)
+pub names_before : (bytes : List ℕ) (n : ℕ) → 4 * end_of bytes + n ≤ length bytes → ((k : ℕ) → k < end_of bytes → word_fits (words_of bytes) k ≡ true)
+    → ((j : ℕ) → j < n → name_fits (words_of bytes) bytes j ≡ true) → AllBefore bytes (end_of bytes + n)
 names_before bytes n room words names p lt =
     elim (cases_lt p (end_of bytes)) [
       | inl below ↦ words_before bytes (end_of bytes) (omega arith) (omega arith) words p below
@@ -68,7 +69,9 @@ missing_word bytes n at lt room short at-is before = record {
   missing = omega (arith, offset-upto bytes (n + 1) (omega arith), short);
 }
 
-pub bad_name : (bytes : List ℕ) (j at : ℕ) → j < filled (name_bytes (words_of bytes)) → 4 * end_of bytes + j < length bytes → at ≡ 4 * end_of bytes + j → ((k : ℕ) → k < end_of bytes → word_fits (words_of bytes) k ≡ true) → ((k : ℕ) → k < j → name_fits (words_of bytes) bytes k ≡ true) → name_fits (words_of bytes) bytes j ≡ false → IsBad bytes at (end_of bytes + j)
+pub bad_name : (bytes : List ℕ) (j at : ℕ) → j < filled (name_bytes (words_of bytes)) → 4 * end_of bytes + j < length bytes
+    → at ≡ 4 * end_of bytes + j → ((k : ℕ) → k < end_of bytes → word_fits (words_of bytes) k ≡ true)
+    → ((k : ℕ) → k < j → name_fits (words_of bytes) bytes k ≡ true) → name_fits (words_of bytes) bytes j ≡ false → IsBad bytes at (end_of bytes + j)
 bad_name bytes j at lt room at-is words before breaks = record {
   is_place = omega (arith, lt);
   before = names_before bytes j (omega arith) words before;
@@ -77,7 +80,9 @@ bad_name bytes j at lt room at-is words before breaks = record {
   breaks = fits-name bytes j ∙ breaks;
 }
 
-pub missing_name : (bytes : List ℕ) (j at : ℕ) → j < filled (name_bytes (words_of bytes)) → 4 * end_of bytes + j ≡ length bytes → at ≡ length bytes → ((k : ℕ) → k < end_of bytes → word_fits (words_of bytes) k ≡ true) → ((k : ℕ) → k < j → name_fits (words_of bytes) bytes k ≡ true) → IsTruncated bytes at (end_of bytes + j)
+pub missing_name : (bytes : List ℕ) (j at : ℕ) → j < filled (name_bytes (words_of bytes)) → 4 * end_of bytes + j ≡ length bytes → at ≡ length bytes
+    → ((k : ℕ) → k < end_of bytes → word_fits (words_of bytes) k ≡ true) → ((k : ℕ) → k < j → name_fits (words_of bytes) bytes k ≡ true)
+    → IsTruncated bytes at (end_of bytes + j)
 missing_name bytes j at lt room at-is words before = record {
   is_place = omega (arith, lt);
   before = names_before bytes j (omega arith) words before;
@@ -88,14 +93,18 @@ missing_name bytes j at lt room at-is words before = record {
 pub end_is : (bytes : List ℕ) → offset bytes (places bytes) ≡ 4 * end_of bytes + filled (name_bytes (words_of bytes))
 end_is bytes = omega (arith, offset-past bytes (places bytes) (omega arith))
 
-pub trailing : (bytes : List ℕ) (at : ℕ) → at ≡ 4 * end_of bytes + filled (name_bytes (words_of bytes)) → at < length bytes → ((k : ℕ) → k < end_of bytes → word_fits (words_of bytes) k ≡ true) → ((k : ℕ) → k < filled (name_bytes (words_of bytes)) → name_fits (words_of bytes) bytes k ≡ true) → IsTrailing bytes at
+pub trailing : (bytes : List ℕ) (at : ℕ) → at ≡ 4 * end_of bytes + filled (name_bytes (words_of bytes)) → at < length bytes
+    → ((k : ℕ) → k < end_of bytes → word_fits (words_of bytes) k ≡ true)
+    → ((k : ℕ) → k < filled (name_bytes (words_of bytes)) → name_fits (words_of bytes) bytes k ≡ true) → IsTrailing bytes at
 trailing bytes at at-is more words names = record {
   all = names_before bytes (filled (name_bytes (words_of bytes))) (omega arith) words names;
   at_is = at-is ∙ sym (end_is bytes);
   more = more;
 }
 
-pub spelled : (bytes : List ℕ) → length bytes ≡ 4 * end_of bytes + filled (name_bytes (words_of bytes)) → ((k : ℕ) → k < end_of bytes → word_fits (words_of bytes) k ≡ true) → ((k : ℕ) → k < filled (name_bytes (words_of bytes)) → name_fits (words_of bytes) bytes k ≡ true) → Spelled bytes
+pub spelled : (bytes : List ℕ) → length bytes ≡ 4 * end_of bytes + filled (name_bytes (words_of bytes))
+    → ((k : ℕ) → k < end_of bytes → word_fits (words_of bytes) k ≡ true)
+    → ((k : ℕ) → k < filled (name_bytes (words_of bytes)) → name_fits (words_of bytes) bytes k ≡ true) → Spelled bytes
 spelled bytes len words names = record {
   all = names_before bytes (filled (name_bytes (words_of bytes))) (omega arith) words names;
   end = len ∙ sym (end_is bytes);

@@ -38,7 +38,8 @@ byte_is : (a : Fields) (base j : ℕ) → base ≡ length (bytes_of (words_in a)
 unfolding spelling
 byte_is a base j e = behind (bytes_of (words_in a)) (names_in a) (base + j) j (omega (arith, e))
 
-name_byte_is : (a : Fields) (base start j k : ℕ) (d : List ℕ) → base ≡ length (bytes_of (words_in a)) → start ≡ length (joined (take k a.names)) → k < length a.names → start ≤ j → j < start + length (get_or a.names k d) → j < length (joined a.names)
+name_byte_is : (a : Fields) (base start j k : ℕ) (d : List ℕ) → base ≡ length (bytes_of (words_in a)) → start ≡ length (joined (take k a.names))
+    → k < length a.names → start ≤ j → j < start + length (get_or a.names k d) → j < length (joined a.names)
     → slice_index (spelling a) (base + j) ≡ slice_index (get_or a.names k d) (j - start)
 name_byte_is a base start j k d eb es hk from to within =
     let e : j ≡ length (joined (take k a.names)) + (j - start) = omega (arith, es, from) in

@@ -124,7 +124,12 @@ words_in_front (w ∷ ws) rest fits =
 
 -- the parts behind the header, one after the other
 body_of : Fields → List ℕ → List ℕ
-body_of a rest = a.text ++ (a.globals ++ (flat_map switch_words a.switches ++ (flat_map function_words a.functions ++ (flat_map variant_words a.variants ++ (flat_map guard_words a.guards ++ (flat_map site_words a.sites ++ (flat_map pointer_words a.pointers ++ (flat_map point_words a.points ++ (flat_map target_words a.targets ++ rest)))))))))
+body_of a rest =
+    a.text ++ (a.globals ++ (flat_map switch_words a.switches
+    ++ (flat_map function_words a.functions
+    ++ (flat_map variant_words a.variants
+    ++ (flat_map guard_words a.guards ++ (flat_map site_words a.sites
+    ++ (flat_map pointer_words a.pointers ++ (flat_map point_words a.points ++ (flat_map target_words a.targets ++ rest)))))))))
 
 regrouped : (a : Fields) (rest : List ℕ) → words_in a ++ rest ≡ header_of a ++ body_of a rest
 unfolding words_in body_of
@@ -277,10 +282,14 @@ words_same a b h p =
 
 lengths_same : (a b : Fields) → Parts a b → lengths_in a ≡ lengths_in b
 lengths_same a b p =
-    ap (λ (rows : List SwitchRow). map (λ (row : SwitchRow). row.length) rows ++ map (λ (row : FunctionRow). row.length) a.functions ++ map (λ (row : PointerRow). row.length) a.pointers ++ map (λ (row : TargetRow). row.length) a.targets) p.switches
-    ∙ ap (λ (rows : List FunctionRow). map (λ (row : SwitchRow). row.length) b.switches ++ map (λ (row : FunctionRow). row.length) rows ++ map (λ (row : PointerRow). row.length) a.pointers ++ map (λ (row : TargetRow). row.length) a.targets) p.functions
-    ∙ ap (λ (rows : List PointerRow). map (λ (row : SwitchRow). row.length) b.switches ++ map (λ (row : FunctionRow). row.length) b.functions ++ map (λ (row : PointerRow). row.length) rows ++ map (λ (row : TargetRow). row.length) a.targets) p.pointers
-    ∙ ap (λ (rows : List TargetRow). map (λ (row : SwitchRow). row.length) b.switches ++ map (λ (row : FunctionRow). row.length) b.functions ++ map (λ (row : PointerRow). row.length) b.pointers ++ map (λ (row : TargetRow). row.length) rows) p.targets
+    ap (λ (rows : List SwitchRow). map (λ (row : SwitchRow). row.length) rows ++ map (λ (row : FunctionRow). row.length) a.functions
+    ++ map (λ (row : PointerRow). row.length) a.pointers ++ map (λ (row : TargetRow). row.length) a.targets) p.switches
+    ∙ ap (λ (rows : List FunctionRow). map (λ (row : SwitchRow). row.length) b.switches ++ map (λ (row : FunctionRow). row.length) rows
+    ++ map (λ (row : PointerRow). row.length) a.pointers ++ map (λ (row : TargetRow). row.length) a.targets) p.functions
+    ∙ ap (λ (rows : List PointerRow). map (λ (row : SwitchRow). row.length) b.switches ++ map (λ (row : FunctionRow). row.length) b.functions
+    ++ map (λ (row : PointerRow). row.length) rows ++ map (λ (row : TargetRow). row.length) a.targets) p.pointers
+    ∙ ap (λ (rows : List TargetRow). map (λ (row : SwitchRow). row.length) b.switches ++ map (λ (row : FunctionRow). row.length) b.functions
+    ++ map (λ (row : PointerRow). row.length) b.pointers ++ map (λ (row : TargetRow). row.length) rows) p.targets
 
 fields_same : (a b : Fields) → a.version ≡ b.version → a.entry ≡ b.entry → Parts a b → a.check ≡ b.check → a.names ≡ b.names → a ≡ b
 fields_same a b ev ee p ec en =

@@ -176,17 +176,38 @@ switches_length a x r =
 functions_length : (a : Fields) (x : List ℕ) → IsWhole a → length (before_functions a) ≡ functions_at (words_in a ++ x)
 functions_length a x r =
     let n = counts_are a x r in
-    omega (arith, n.switches, switches_length a x r, functions_from (words_in a ++ x), length-append (before_switches a) (flat_map switch_words a.switches), flat_length switch_words SwitchWhole switch_row_words switch_width a.switches r.widths.switches)
+    omega (
+      arith,
+      n.switches,
+      switches_length a x r,
+      functions_from (words_in a ++ x),
+      length-append (before_switches a) (flat_map switch_words a.switches),
+      flat_length switch_words SwitchWhole switch_row_words switch_width a.switches r.widths.switches,
+    )
 
 variants_length : (a : Fields) (x : List ℕ) → IsWhole a → length (before_variants a) ≡ variants_at (words_in a ++ x)
 variants_length a x r =
     let n = counts_are a x r in
-    omega (arith, n.functions, functions_length a x r, variants_from (words_in a ++ x), length-append (before_functions a) (flat_map function_words a.functions), flat_length function_words FunctionWhole function_row_words function_width a.functions r.widths.functions)
+    omega (
+      arith,
+      n.functions,
+      functions_length a x r,
+      variants_from (words_in a ++ x),
+      length-append (before_functions a) (flat_map function_words a.functions),
+      flat_length function_words FunctionWhole function_row_words function_width a.functions r.widths.functions,
+    )
 
 guards_length : (a : Fields) (x : List ℕ) → IsWhole a → length (before_guards a) ≡ guards_at (words_in a ++ x)
 guards_length a x r =
     let n = counts_are a x r in
-    omega (arith, n.variants, variants_length a x r, guards_from (words_in a ++ x), length-append (before_variants a) (flat_map variant_words a.variants), flat_length variant_words VariantWhole variant_row_words variant_width a.variants r.widths.variants)
+    omega (
+      arith,
+      n.variants,
+      variants_length a x r,
+      guards_from (words_in a ++ x),
+      length-append (before_variants a) (flat_map variant_words a.variants),
+      flat_length variant_words VariantWhole variant_row_words variant_width a.variants r.widths.variants,
+    )
 
 sites_length : (a : Fields) (x : List ℕ) → IsWhole a → length (before_sites a) ≡ sites_at (words_in a ++ x)
 sites_length a x r =
@@ -201,18 +222,32 @@ pointers_length a x r =
 points_length : (a : Fields) (x : List ℕ) → IsWhole a → length (before_points a) ≡ points_at (words_in a ++ x)
 points_length a x r =
     let n = counts_are a x r in
-    omega (arith, n.pointers, pointers_length a x r, points_from (words_in a ++ x), length-append (before_pointers a) (flat_map pointer_words a.pointers), flat_length pointer_words PointerWhole pointer_row_words pointer_width a.pointers (λ i e lt. tt))
+    omega (
+      arith,
+      n.pointers,
+      pointers_length a x r,
+      points_from (words_in a ++ x),
+      length-append (before_pointers a) (flat_map pointer_words a.pointers),
+      flat_length pointer_words PointerWhole pointer_row_words pointer_width a.pointers (λ i e lt. tt),
+    )
 
 targets_length : (a : Fields) (x : List ℕ) → IsWhole a → length (before_targets a) ≡ targets_at (words_in a ++ x)
 targets_length a x r =
     let n = counts_are a x r in
     omega (arith, n.points, points_length a x r, targets_from (words_in a ++ x), length-append (before_points a) (flat_map point_words a.points), flat_length point_words PointWhole point_row_words point_width a.points (λ i e lt. tt))
 
-switches_split : (a : Fields) (x : List ℕ) → words_in a ++ x ≡ before_switches a ++ (flat_map switch_words a.switches ++ (flat_map function_words a.functions ++ flat_map variant_words a.variants ++ flat_map guard_words a.guards ++ flat_map site_words a.sites ++ after_sites a x))
+switches_split : (a : Fields) (x : List ℕ)
+    → words_in a ++ x ≡ before_switches a
+    ++ (flat_map switch_words a.switches
+    ++ (flat_map function_words a.functions ++ flat_map variant_words a.variants ++ flat_map guard_words a.guards ++ flat_map site_words a.sites
+    ++ after_sites a x))
 unfolding words_in
 switches_split a x = simp append_assoc
 
-functions_split : (a : Fields) (x : List ℕ) → words_in a ++ x ≡ before_functions a ++ (flat_map function_words a.functions ++ (flat_map variant_words a.variants ++ flat_map guard_words a.guards ++ flat_map site_words a.sites ++ after_sites a x))
+functions_split : (a : Fields) (x : List ℕ)
+    → words_in a ++ x ≡ before_functions a
+    ++ (flat_map function_words a.functions
+    ++ (flat_map variant_words a.variants ++ flat_map guard_words a.guards ++ flat_map site_words a.sites ++ after_sites a x))
 unfolding words_in
 functions_split a x = simp append_assoc
 
@@ -254,7 +289,8 @@ pub function_stands : (a : Fields) (x : List ℕ) → IsWhole a → (k j : ℕ) 
 unfolding function_field
 function_stands a x r k j d hk hj =
     ap (λ (t : List ℕ). slice_index t (functions_at (words_in a ++ x) + function_row_words * k + j)) (functions_split a x)
-    ∙ row_word function_words FunctionWhole function_row_words function_width a.functions r.widths.functions (before_functions a) _ k j (functions_at (words_in a ++ x) + function_row_words * k + j) d hk hj (omega (arith, functions_length a x r))
+    ∙ row_word function_words FunctionWhole function_row_words function_width a.functions r.widths.functions (before_functions a) _ k j
+    (functions_at (words_in a ++ x) + function_row_words * k + j) d hk hj (omega (arith, functions_length a x r))
 
 pub variant_stands : (a : Fields) (x : List ℕ) → IsWhole a → (k j : ℕ) (d : VariantRow) → k < length a.variants → j < variant_row_words → variant_field (words_in a ++ x) k j ≡ slice_index (variant_words (get_or a.variants k d)) j
 unfolding variant_field
@@ -292,7 +328,10 @@ target_stands a x r k j d hk hj =
     ap (λ (t : List ℕ). slice_index t (targets_at (words_in a ++ x) + target_row_words * k + j)) (targets_split a x)
     ∙ row_word target_words TargetWhole target_row_words target_width a.targets (λ i e lt. tt) (before_targets a) _ k j (targets_at (words_in a ++ x) + target_row_words * k + j) d hk hj (omega (arith, targets_length a x r))
 
-text_first : (a : Fields) (x : List ℕ) → words_in a ++ x ≡ header_of a ++ (a.text ++ (a.globals ++ (flat_map switch_words a.switches ++ flat_map function_words a.functions ++ flat_map variant_words a.variants ++ flat_map guard_words a.guards ++ flat_map site_words a.sites ++ after_sites a x)))
+text_first : (a : Fields) (x : List ℕ)
+    → words_in a ++ x ≡ header_of a ++ (a.text
+    ++ (a.globals ++ (flat_map switch_words a.switches ++ flat_map function_words a.functions ++ flat_map variant_words a.variants
+    ++ flat_map guard_words a.guards ++ flat_map site_words a.sites ++ after_sites a x)))
 unfolding words_in
 text_first a x = simp append_assoc
 
@@ -314,14 +353,25 @@ globals_stand a x r =
     let size = header_length a x in
     let len = length-append (header_of a) a.text in
     ap (λ (t : List ℕ). slice_range t (data_at (words_in a ++ x)) (switches_at (words_in a ++ x))) (text_first a x ∙ sym (append_assoc (header_of a) a.text _))
-    ∙ part_is (header_of a ++ a.text) a.globals _ (data_at (words_in a ++ x)) (switches_at (words_in a ++ x)) (omega (arith, size, len, n.text, data_from (words_in a ++ x))) (omega (arith, size, len, n.text, n.globals, data_from (words_in a ++ x), switches_after (words_in a ++ x)))
+    ∙ part_is (header_of a ++ a.text) a.globals _ (data_at (words_in a ++ x)) (switches_at (words_in a ++ x))
+    (omega (arith, size, len, n.text, data_from (words_in a ++ x)))
+    (omega (arith, size, len, n.text, n.globals, data_from (words_in a ++ x), switches_after (words_in a ++ x)))
 
 -- the words of an image are all that stand before the names
 pub words_length : (a : Fields) (x : List ℕ) → IsWhole a → words_end (words_in a ++ x) ≡ length (words_in a)
 words_length a x w =
     let n = counts_are a x w in
     let len : length (before_targets a ++ flat_map target_words a.targets) ≡ length (words_in a) = ap length (sym (targets_last a)) in
-    omega (arith, len, n.targets, targets_length a x w, end_from (words_in a ++ x), length-append (before_targets a) (flat_map target_words a.targets), flat_length target_words TargetWhole target_row_words target_width a.targets (λ i e lt. tt))
+    omega (
+      arith,
+      len,
+      n.targets,
+      targets_length a x w,
+      end_from (words_in a ++ x),
+      length-append (before_targets a) (flat_map target_words a.targets),
+      flat_length target_words TargetWhole target_row_words target_width a.targets
+          (λ i e lt. tt),
+    )
 
 -- ---- words in which the fields stand
 

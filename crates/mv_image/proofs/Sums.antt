@@ -130,7 +130,8 @@ guard_high_unused ws g f i e h le =
     eqb-true _ _ (rw (e, s, m, t) at h)
 
 -- the function of a guard row that stands among those of a variant of it
-owners_are : (ws : List ℕ) (a : Fields) → StandIn ws a → (f v g : ℕ) → f < length a.functions → variants_before a f ≤ v → v < variants_before a (f + 1) → v < length a.variants → guards_before a v ≤ g → g < guards_before a (v + 1) → guard_function ws g ≡ f
+owners_are : (ws : List ℕ) (a : Fields) → StandIn ws a → (f v g : ℕ) → f < length a.functions → variants_before a f ≤ v
+    → v < variants_before a (f + 1) → v < length a.variants → guards_before a v ≤ g → g < guards_before a (v + 1) → guard_function ws g ≡ f
 unfolding guard_function
 owners_are ws a s f v g hf from to hv above below =
     let n = s.counts in
@@ -148,7 +149,9 @@ pub any_switch : SwitchRow
 any_switch = record { length = 0; address = 0; kind = kinds.Int; count = 0; values = [] }
 
 -- the kind of a function's switch, in the words and in the rows
-pub kind_stands : (ws : List ℕ) (a : Fields) → StandIn ws a → (f i : ℕ) (d : FunctionRow) → f < length a.functions → FitsFunction a (get_or a.functions f d) → i < (get_or a.functions f d).count → kind_at ws f i ≡ kind_of a (slice_index (get_or a.functions f d).switches i)
+pub kind_stands : (ws : List ℕ) (a : Fields) → StandIn ws a → (f i : ℕ) (d : FunctionRow) → f < length a.functions
+    → FitsFunction a (get_or a.functions f d) → i < (get_or a.functions f d).count
+    → kind_at ws f i ≡ kind_of a (slice_index (get_or a.functions f d).switches i)
 kind_stands ws a s f i d hf fits hi =
     let k : ℕ = slice_index (get_or a.functions f d).switches i in
     let there : k < length a.switches = fits.switches i hi in

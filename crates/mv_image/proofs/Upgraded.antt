@@ -22,7 +22,17 @@ in_data a x there = record { aligned = there.aligned; not_before = there.not_bef
 rows_fit : (a : Fields) → RowsFit a → RowsFit (upgraded a)
 rows_fit a fit = record {
   switches = λ k d lt. (let row = fit.switches k d lt in record { named = row.named; name = row.name; address = in_data a _ row.address; some = row.some; count = row.count; values = row.values });
-  functions = λ k d lt. (let row = fit.functions k d lt in record { named = row.named; name = row.name; entry = in_text a _ row.entry; count = row.count; switches = row.switches; ascend = row.ascend; some = row.some; variants = row.variants });
+  functions = λ k d lt. (let row = fit.functions k d lt in
+      record {
+        named = row.named;
+        name = row.name;
+        entry = in_text a _ row.entry;
+        count = row.count;
+        switches = row.switches;
+        ascend = row.ascend;
+        some = row.some;
+        variants = row.variants;
+      });
   variants = λ k d lt. (let row = fit.variants k d lt in record { address = in_text a _ row.address; inlined = row.inlined; some = row.some; guards = row.guards });
   guards = λ f v g d e own. (
       let of : IsGuardOf a f v g = record {

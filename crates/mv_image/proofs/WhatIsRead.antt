@@ -5,7 +5,7 @@ use Rattle.std.specs.List.{flat_map}
 use Rattle.std.proofs.Math.Seq.{take-length}
 use Rattle.std.proofs.Common.{eq-eqb}
 use Rattle.std.proofs.lemmas.Bool.{lt-ltb, le-ltb, cases_lt, eqb-true, cases_Bool, or_cases}
-use Rattle.std.proofs.lemmas.List.{get_or-take, get_or-drop, get_or_past, length-take, length-drop, take-append-drop}
+use Rattle.std.proofs.lemmas.List.{get_or-take, get_or-drop, get_or_past, length-take, length-drop, take-append-drop, nil_from_length}
 use Rattle.byteorder.specs.Endian.{little_number}
 use Rattle.mv_num.specs.Bytes.{words_of, bytes_of, AreBytes, AreWords}
 use Rattle.mv_num.proofs.ByteLaws.{number-bytes, length-words_of}
@@ -70,7 +70,9 @@ zeros_list (x ∷ xs) (suc n) len zeros =
 
 -- ---- the header
 
-first_twelve : (xs : List ℕ) → 12 ≤ length xs → take 12 xs ≡ slice_index xs 0 ∷ slice_index xs 1 ∷ slice_index xs 2 ∷ slice_index xs 3 ∷ slice_index xs 4 ∷ slice_index xs 5 ∷ slice_index xs 6 ∷ slice_index xs 7 ∷ slice_index xs 8 ∷ slice_index xs 9 ∷ slice_index xs 10 ∷ slice_index xs 11 ∷ []
+first_twelve : (xs : List ℕ) → 12 ≤ length xs
+    → take 12 xs ≡ slice_index xs 0 ∷ slice_index xs 1 ∷ slice_index xs 2 ∷ slice_index xs 3 ∷ slice_index xs 4 ∷ slice_index xs 5 ∷ slice_index xs 6
+    ∷ slice_index xs 7 ∷ slice_index xs 8 ∷ slice_index xs 9 ∷ slice_index xs 10 ∷ slice_index xs 11 ∷ []
 first_twelve [] room = absurd (omega arith)
 first_twelve (a ∷ []) room = absurd (omega arith)
 first_twelve (a ∷ b ∷ []) room = absurd (omega arith)
@@ -273,8 +275,12 @@ header_is ws bytes image fit room more r =
     let e0 = magic_is ws (header_rule ws magic_place fit (omega (arith, at12))) in
     let e1 = r.version in
     let e2 = r.entry in
-    let e3 : length image.text ≡ text_words ws = ap length r.text ∙ range_length ws (header_words ws) (data_at ws) o.first (omega (arith, o.switches, o.functions, o.variants, o.guards, o.sites, o.pointers, o.points, o.targets, o.end)) ∙ omega (arith, data_from ws) in
-    let e4 : length image.globals ≡ data_words ws = ap length r.globals ∙ range_length ws (data_at ws) (switches_at ws) o.switches (omega (arith, o.functions, o.variants, o.guards, o.sites, o.pointers, o.points, o.targets, o.end)) ∙ omega (arith, switches_after ws) in
+    let e3 : length image.text ≡ text_words ws =
+    ap length r.text ∙ range_length ws (header_words ws) (data_at ws) o.first
+    (omega (arith, o.switches, o.functions, o.variants, o.guards, o.sites, o.pointers, o.points, o.targets, o.end)) ∙ omega (arith, data_from ws) in
+    let e4 : length image.globals ≡ data_words ws =
+    ap length r.globals ∙ range_length ws (data_at ws) (switches_at ws) o.switches
+    (omega (arith, o.functions, o.variants, o.guards, o.sites, o.pointers, o.points, o.targets, o.end)) ∙ omega (arith, switches_after ws) in
     let e5 = r.switches_count in
     let e6 = r.functions_count in
     let e7 = r.variants_count in
@@ -286,7 +292,9 @@ header_is ws bytes image fit room more r =
     let enough : header_words ws ≤ length ws = omega (arith, room, o.first, o.switches, o.functions, o.variants, o.guards, o.sites, o.pointers, o.points, o.targets, o.end) in
     let all = first_twelve ws (omega (arith, at12, enough)) in
     let later = later_is (is_second ws) ws image refl r.version enough r.pointers_count r.points_count r.targets_count r.check in
-    let made : ℕ → ℕ → List ℕ → List ℕ = λ m z l. m ∷ slice_index ws 1 ∷ slice_index ws 2 ∷ slice_index ws 3 ∷ slice_index ws 4 ∷ slice_index ws 5 ∷ slice_index ws 6 ∷ slice_index ws 7 ∷ slice_index ws 8 ∷ slice_index ws 9 ∷ slice_index ws 10 ∷ z ∷ l in
+    let made : ℕ → ℕ → List ℕ → List ℕ =
+    λ m z l. m ∷ slice_index ws 1 ∷ slice_index ws 2 ∷ slice_index ws 3 ∷ slice_index ws 4 ∷ slice_index ws 5 ∷ slice_index ws 6 ∷ slice_index ws 7
+    ∷ slice_index ws 8 ∷ slice_index ws 9 ∷ slice_index ws 10 ∷ z ∷ l in
     let start : header_of image ≡ made 0x3149564D 0 (later_of image) = cc (e1, e2, e3, e4, e5, e6, e7, e8, e9, e10) in
     (start ∙ ap (λ (m : ℕ). made m 0 (later_of image)) (sym e0) ∙ ap (λ (z : ℕ). made (slice_index ws 0) z (later_of image)) (sym e11) ∙ ap (made (slice_index ws 0) (slice_index ws 11)) later
     ∙ ap (λ (x : List ℕ). x ++ slice_range ws 12 (header_words ws)) (sym all) ∙ front_join ws 12 (header_words ws) at12)
@@ -296,20 +304,29 @@ unfolding words_in
 joined_words ws bytes image header r =
     let o = in_order ws in
     let s1 : header_of image ++ image.text ≡ take (data_at ws) ws = ap (λ (x : List ℕ). x ++ image.text) header ∙ ap (λ (x : List ℕ). take (header_words ws) ws ++ x) r.text ∙ front_join ws (header_words ws) (data_at ws) o.first in
-    let s2 : (header_of image ++ image.text) ++ image.globals ≡ take (switches_at ws) ws = ap (λ (x : List ℕ). x ++ image.globals) s1 ∙ ap (λ (x : List ℕ). take (data_at ws) ws ++ x) r.globals ∙ front_join ws (data_at ws) (switches_at ws) o.switches in
+    let s2 : (header_of image ++ image.text) ++ image.globals ≡ take (switches_at ws) ws =
+    ap (λ (x : List ℕ). x ++ image.globals) s1 ∙ ap (λ (x : List ℕ). take (data_at ws) ws ++ x) r.globals
+    ∙ front_join ws (data_at ws) (switches_at ws) o.switches in
     let s3 : ((header_of image ++ image.text) ++ image.globals) ++ flat_map switch_words image.switches ≡ take (functions_at ws) ws =
     ap (λ (x : List ℕ). x ++ flat_map switch_words image.switches) s2 ∙ ap (λ (x : List ℕ). take (switches_at ws) ws ++ x) r.switches ∙ front_join ws (switches_at ws) (functions_at ws) o.functions in
     let s4 : (((header_of image ++ image.text) ++ image.globals) ++ flat_map switch_words image.switches) ++ flat_map function_words image.functions ≡ take (variants_at ws) ws =
     ap (λ (x : List ℕ). x ++ flat_map function_words image.functions) s3 ∙ ap (λ (x : List ℕ). take (functions_at ws) ws ++ x) r.functions ∙ front_join ws (functions_at ws) (variants_at ws) o.variants in
     let s5 : ((((header_of image ++ image.text) ++ image.globals) ++ flat_map switch_words image.switches) ++ flat_map function_words image.functions) ++ flat_map variant_words image.variants ≡ take (guards_at ws) ws =
     ap (λ (x : List ℕ). x ++ flat_map variant_words image.variants) s4 ∙ ap (λ (x : List ℕ). take (variants_at ws) ws ++ x) r.variants ∙ front_join ws (variants_at ws) (guards_at ws) o.guards in
-    let s6 : (((((header_of image ++ image.text) ++ image.globals) ++ flat_map switch_words image.switches) ++ flat_map function_words image.functions) ++ flat_map variant_words image.variants) ++ flat_map guard_words image.guards ≡ take (sites_at ws) ws =
+    let s6 : (((((header_of image ++ image.text) ++ image.globals) ++ flat_map switch_words image.switches)
+    ++ flat_map function_words image.functions) ++ flat_map variant_words image.variants) ++ flat_map guard_words image.guards ≡ take (sites_at ws) ws =
     ap (λ (x : List ℕ). x ++ flat_map guard_words image.guards) s5 ∙ ap (λ (x : List ℕ). take (guards_at ws) ws ++ x) r.guards ∙ front_join ws (guards_at ws) (sites_at ws) o.sites in
-    let s7 : ((((((header_of image ++ image.text) ++ image.globals) ++ flat_map switch_words image.switches) ++ flat_map function_words image.functions) ++ flat_map variant_words image.variants) ++ flat_map guard_words image.guards) ++ flat_map site_words image.sites ≡ take (pointers_at ws) ws =
+    let s7 : ((((((header_of image ++ image.text) ++ image.globals) ++ flat_map switch_words image.switches)
+    ++ flat_map function_words image.functions) ++ flat_map variant_words image.variants) ++ flat_map guard_words image.guards)
+    ++ flat_map site_words image.sites ≡ take (pointers_at ws) ws =
     ap (λ (x : List ℕ). x ++ flat_map site_words image.sites) s6 ∙ ap (λ (x : List ℕ). take (sites_at ws) ws ++ x) r.sites ∙ front_join ws (sites_at ws) (pointers_at ws) o.pointers in
-    let s8 : (((((((header_of image ++ image.text) ++ image.globals) ++ flat_map switch_words image.switches) ++ flat_map function_words image.functions) ++ flat_map variant_words image.variants) ++ flat_map guard_words image.guards) ++ flat_map site_words image.sites) ++ flat_map pointer_words image.pointers ≡ take (points_at ws) ws =
+    let s8 : (((((((header_of image ++ image.text) ++ image.globals) ++ flat_map switch_words image.switches)
+    ++ flat_map function_words image.functions) ++ flat_map variant_words image.variants) ++ flat_map guard_words image.guards)
+    ++ flat_map site_words image.sites) ++ flat_map pointer_words image.pointers ≡ take (points_at ws) ws =
     ap (λ (x : List ℕ). x ++ flat_map pointer_words image.pointers) s7 ∙ ap (λ (x : List ℕ). take (pointers_at ws) ws ++ x) r.pointers ∙ front_join ws (pointers_at ws) (points_at ws) o.points in
-    let s9 : ((((((((header_of image ++ image.text) ++ image.globals) ++ flat_map switch_words image.switches) ++ flat_map function_words image.functions) ++ flat_map variant_words image.variants) ++ flat_map guard_words image.guards) ++ flat_map site_words image.sites) ++ flat_map pointer_words image.pointers) ++ flat_map point_words image.points ≡ take (targets_at ws) ws =
+    let s9 : ((((((((header_of image ++ image.text) ++ image.globals) ++ flat_map switch_words image.switches)
+    ++ flat_map function_words image.functions) ++ flat_map variant_words image.variants) ++ flat_map guard_words image.guards)
+    ++ flat_map site_words image.sites) ++ flat_map pointer_words image.pointers) ++ flat_map point_words image.points ≡ take (targets_at ws) ws =
     ap (λ (x : List ℕ). x ++ flat_map point_words image.points) s8 ∙ ap (λ (x : List ℕ). take (points_at ws) ws ++ x) r.points ∙ front_join ws (points_at ws) (targets_at ws) o.targets in
     ap (λ (x : List ℕ). x ++ flat_map target_words image.targets) s9 ∙ ap (λ (x : List ℕ). take (targets_at ws) ws ++ x) r.targets ∙ front_join ws (targets_at ws) (words_end ws) o.end
 
@@ -327,7 +344,8 @@ range_all xs a le =
 pub filled_from : (n : ℕ) → n ≤ filled n
 filled_from n = omega arith
 
-names_are_read : (ws bytes : List ℕ) (image : Fields) → AllFit ws → length bytes ≡ 4 * words_end ws + filled (name_bytes ws) → ((j : ℕ) → j < filled (name_bytes ws) → name_fits ws bytes j ≡ true) → IsRead ws bytes image → names_in image ≡ drop (4 * words_end ws) bytes
+names_are_read : (ws bytes : List ℕ) (image : Fields) → AllFit ws → length bytes ≡ 4 * words_end ws + filled (name_bytes ws)
+    → ((j : ℕ) → j < filled (name_bytes ws) → name_fits ws bytes j ≡ true) → IsRead ws bytes image → names_in image ≡ drop (4 * words_end ws) bytes
 names_are_read ws bytes image fit len names-fit r =
     let s = names_sum ws fit in
     let base : ℕ = 4 * words_end ws in
@@ -337,7 +355,9 @@ names_are_read ws bytes image fit len names-fit r =
     let size : length (joined image.names) ≡ b = ap length named ∙ range_length bytes base (base + b) (omega arith) (omega (arith, len, more)) ∙ omega arith in
     let rest : slice_range bytes (base + b) (length bytes) ≡ replicate {A = ℕ} (filled b - b) 0 =
     zeros_list (slice_range bytes (base + b) (length bytes)) (filled b - b) (range_length bytes (base + b) (length bytes) (omega (arith, len, more)) (omega arith) ∙ omega (arith, len, more))
-    (λ i lt. index_range bytes (base + b) (length bytes) i (omega (arith, len, lt, more)) ∙ (let k : base + b + i ≡ base + (b + i) = omega arith in ap (slice_index bytes) k ∙ fill_fits ws bytes (b + i) (omega arith) (names-fit (b + i) (omega (arith, lt, more))))) in
+    (λ i lt. index_range bytes (base + b) (length bytes) i (omega (arith, len, lt, more))
+    ∙ (let k : base + b + i ≡ base + (b + i) = omega arith in
+    ap (slice_index bytes) k ∙ fill_fits ws bytes (b + i) (omega arith) (names-fit (b + i) (omega (arith, lt, more))))) in
     ap (λ (x : List ℕ). x ++ replicate {A = ℕ} (filled (length (joined image.names)) - length (joined image.names)) 0) named
     ∙ ap (λ (n : ℕ). slice_range bytes base (base + b) ++ replicate {A = ℕ} (filled n - n) 0) size
     ∙ ap (λ (x : List ℕ). slice_range bytes base (base + b) ++ x) (sym rest)
@@ -450,7 +470,9 @@ lengths_are ws bytes image room whole_switches whole_functions r =
     let nswitch : switches_at ws + switch_row_words * (0 + length image.switches) ≡ functions_at ws = omega (arith, r.switches_count, functions_from ws) in
     let fswitch : map (λ (row : SwitchRow). row.length) image.switches ≡ first_from (λ i. slice_index ws (switches_at ws + switch_row_words * i)) 0 (length image.switches) =
     firsts switch_words (λ row. row.length) switch_row_words (omega arith) (λ row. refl) image.switches (λ k d lt. switch_width (get_or image.switches k d) (whole_switches k d lt)) ws (switches_at ws) 0
-    (omega (arith, nswitch, room, o.variants, o.guards, o.sites, o.pointers, o.points, o.targets, o.end)) (r.switches ∙ ap (λ (x : ℕ). slice_range ws x (functions_at ws)) (sym zswitch) ∙ ap (λ (x : ℕ). slice_range ws (switches_at ws + switch_row_words * 0) x) (sym nswitch)) in
+    (omega (arith, nswitch, room, o.variants, o.guards, o.sites, o.pointers, o.points, o.targets, o.end))
+    (r.switches ∙ ap (λ (x : ℕ). slice_range ws x (functions_at ws)) (sym zswitch)
+    ∙ ap (λ (x : ℕ). slice_range ws (switches_at ws + switch_row_words * 0) x) (sym nswitch)) in
     let gswitch : first_from (name_length ws) 0 (switch_rows ws) ≡ first_from (λ i. slice_index ws (switches_at ws + switch_row_words * i)) 0 (switch_rows ws) =
     first_from-same (name_length ws) (λ i. slice_index ws (switches_at ws + switch_row_words * i)) 0 0 (switch_rows ws)
     (λ i lt. (let m : 0 + i ≡ i = omega arith in let z : 0 + i ≡ i = omega arith in ap (name_length ws) m ∙ switch_length ws i lt ∙ ap (λ (x : ℕ). slice_index ws (switches_at ws + switch_row_words * x)) (sym z))) in
@@ -458,10 +480,13 @@ lengths_are ws bytes image room whole_switches whole_functions r =
     let nfunction : functions_at ws + function_row_words * (0 + length image.functions) ≡ variants_at ws = omega (arith, r.functions_count, variants_from ws) in
     let ffunction : map (λ (row : FunctionRow). row.length) image.functions ≡ first_from (λ i. slice_index ws (functions_at ws + function_row_words * i)) 0 (length image.functions) =
     firsts function_words (λ row. row.length) function_row_words (omega arith) (λ row. refl) image.functions (λ k d lt. function_width (get_or image.functions k d) (whole_functions k d lt)) ws (functions_at ws) 0
-    (omega (arith, nfunction, room, o.guards, o.sites, o.pointers, o.points, o.targets, o.end)) (r.functions ∙ ap (λ (x : ℕ). slice_range ws x (variants_at ws)) (sym zfunction) ∙ ap (λ (x : ℕ). slice_range ws (functions_at ws + function_row_words * 0) x) (sym nfunction)) in
+    (omega (arith, nfunction, room, o.guards, o.sites, o.pointers, o.points, o.targets, o.end))
+    (r.functions ∙ ap (λ (x : ℕ). slice_range ws x (variants_at ws)) (sym zfunction)
+    ∙ ap (λ (x : ℕ). slice_range ws (functions_at ws + function_row_words * 0) x) (sym nfunction)) in
     let gfunction : first_from (name_length ws) (0 + switch_rows ws) (function_rows ws) ≡ first_from (λ i. slice_index ws (functions_at ws + function_row_words * i)) 0 (function_rows ws) =
     first_from-same (name_length ws) (λ i. slice_index ws (functions_at ws + function_row_words * i)) (0 + switch_rows ws) 0 (function_rows ws)
-    (λ i lt. (let m : (0 + switch_rows ws) + i ≡ switch_rows ws + i = omega arith in let z : 0 + i ≡ i = omega arith in ap (name_length ws) m ∙ function_length ws i lt ∙ ap (λ (x : ℕ). slice_index ws (functions_at ws + function_row_words * x)) (sym z))) in
+    (λ i lt. (let m : (0 + switch_rows ws) + i ≡ switch_rows ws + i = omega arith in let z : 0 + i ≡ i = omega arith in
+    ap (name_length ws) m ∙ function_length ws i lt ∙ ap (λ (x : ℕ). slice_index ws (functions_at ws + function_row_words * x)) (sym z))) in
     let zpointer : pointers_at ws + pointer_row_words * 0 ≡ pointers_at ws = omega arith in
     let npointer : pointers_at ws + pointer_row_words * (0 + length image.pointers) ≡ points_at ws = omega (arith, r.pointers_count, points_from ws) in
     let fpointer : map (λ (row : PointerRow). row.length) image.pointers ≡ first_from (λ i. slice_index ws (pointers_at ws + pointer_row_words * i)) 0 (length image.pointers) =
@@ -469,7 +494,8 @@ lengths_are ws bytes image room whole_switches whole_functions r =
     (omega (arith, npointer, room, o.targets, o.end)) (r.pointers ∙ ap (λ (x : ℕ). slice_range ws x (points_at ws)) (sym zpointer) ∙ ap (λ (x : ℕ). slice_range ws (pointers_at ws + pointer_row_words * 0) x) (sym npointer)) in
     let gpointer : first_from (name_length ws) (0 + pointer_names_at ws) (pointer_rows ws) ≡ first_from (λ i. slice_index ws (pointers_at ws + pointer_row_words * i)) 0 (pointer_rows ws) =
     first_from-same (name_length ws) (λ i. slice_index ws (pointers_at ws + pointer_row_words * i)) (0 + pointer_names_at ws) 0 (pointer_rows ws)
-    (λ i lt. (let m : (0 + pointer_names_at ws) + i ≡ pointer_names_at ws + i = omega arith in let z : 0 + i ≡ i = omega arith in ap (name_length ws) m ∙ pointer_length ws i lt ∙ ap (λ (x : ℕ). slice_index ws (pointers_at ws + pointer_row_words * x)) (sym z))) in
+    (λ i lt. (let m : (0 + pointer_names_at ws) + i ≡ pointer_names_at ws + i = omega arith in let z : 0 + i ≡ i = omega arith in
+    ap (name_length ws) m ∙ pointer_length ws i lt ∙ ap (λ (x : ℕ). slice_index ws (pointers_at ws + pointer_row_words * x)) (sym z))) in
     let ztarget : targets_at ws + target_row_words * 0 ≡ targets_at ws = omega arith in
     let ntarget : targets_at ws + target_row_words * (0 + length image.targets) ≡ words_end ws = omega (arith, r.targets_count, end_from ws) in
     let ftarget : map (λ (row : TargetRow). row.length) image.targets ≡ first_from (λ i. slice_index ws (targets_at ws + target_row_words * i)) 0 (length image.targets) =
@@ -477,16 +503,25 @@ lengths_are ws bytes image room whole_switches whole_functions r =
     (omega (arith, ntarget, room, o.end)) (r.targets ∙ ap (λ (x : ℕ). slice_range ws x (words_end ws)) (sym ztarget) ∙ ap (λ (x : ℕ). slice_range ws (targets_at ws + target_row_words * 0) x) (sym ntarget)) in
     let gtarget : first_from (name_length ws) (0 + target_names_at ws) (target_rows ws) ≡ first_from (λ i. slice_index ws (targets_at ws + target_row_words * i)) 0 (target_rows ws) =
     first_from-same (name_length ws) (λ i. slice_index ws (targets_at ws + target_row_words * i)) (0 + target_names_at ws) 0 (target_rows ws)
-    (λ i lt. (let m : (0 + target_names_at ws) + i ≡ target_names_at ws + i = omega arith in let z : 0 + i ≡ i = omega arith in ap (name_length ws) m ∙ target_length ws i ∙ ap (λ (x : ℕ). slice_index ws (targets_at ws + target_row_words * x)) (sym z))) in
-    let switches : first_from (name_length ws) 0 (switch_rows ws) ≡ map (λ (row : SwitchRow). row.length) image.switches = gswitch ∙ ap (first_from (λ i. slice_index ws (switches_at ws + switch_row_words * i)) 0) (sym r.switches_count) ∙ sym fswitch in
-    let functions : first_from (name_length ws) (0 + switch_rows ws) (function_rows ws) ≡ map (λ (row : FunctionRow). row.length) image.functions = gfunction ∙ ap (first_from (λ i. slice_index ws (functions_at ws + function_row_words * i)) 0) (sym r.functions_count) ∙ sym ffunction in
-    let pointers : first_from (name_length ws) (0 + pointer_names_at ws) (pointer_rows ws) ≡ map (λ (row : PointerRow). row.length) image.pointers = gpointer ∙ ap (first_from (λ i. slice_index ws (pointers_at ws + pointer_row_words * i)) 0) (sym r.pointers_count) ∙ sym fpointer in
-    let targets : first_from (name_length ws) (0 + target_names_at ws) (target_rows ws) ≡ map (λ (row : TargetRow). row.length) image.targets = gtarget ∙ ap (first_from (λ i. slice_index ws (targets_at ws + target_row_words * i)) 0) (sym r.targets_count) ∙ sym ftarget in
-    let split : first_from (name_length ws) 0 (names ws) ≡ ((first_from (name_length ws) 0 (switch_rows ws) ++ first_from (name_length ws) (0 + switch_rows ws) (function_rows ws)) ++ first_from (name_length ws) (0 + pointer_names_at ws) (pointer_rows ws)) ++ first_from (name_length ws) (0 + target_names_at ws) (target_rows ws) =
+    (λ i lt. (let m : (0 + target_names_at ws) + i ≡ target_names_at ws + i = omega arith in let z : 0 + i ≡ i = omega arith in
+    ap (name_length ws) m ∙ target_length ws i ∙ ap (λ (x : ℕ). slice_index ws (targets_at ws + target_row_words * x)) (sym z))) in
+    let switches : first_from (name_length ws) 0 (switch_rows ws) ≡ map (λ (row : SwitchRow). row.length) image.switches =
+    gswitch ∙ ap (first_from (λ i. slice_index ws (switches_at ws + switch_row_words * i)) 0) (sym r.switches_count) ∙ sym fswitch in
+    let functions : first_from (name_length ws) (0 + switch_rows ws) (function_rows ws) ≡ map (λ (row : FunctionRow). row.length) image.functions =
+    gfunction ∙ ap (first_from (λ i. slice_index ws (functions_at ws + function_row_words * i)) 0) (sym r.functions_count) ∙ sym ffunction in
+    let pointers : first_from (name_length ws) (0 + pointer_names_at ws) (pointer_rows ws) ≡ map (λ (row : PointerRow). row.length) image.pointers =
+    gpointer ∙ ap (first_from (λ i. slice_index ws (pointers_at ws + pointer_row_words * i)) 0) (sym r.pointers_count) ∙ sym fpointer in
+    let targets : first_from (name_length ws) (0 + target_names_at ws) (target_rows ws) ≡ map (λ (row : TargetRow). row.length) image.targets =
+    gtarget ∙ ap (first_from (λ i. slice_index ws (targets_at ws + target_row_words * i)) 0) (sym r.targets_count) ∙ sym ftarget in
+    let split : first_from (name_length ws) 0 (names ws)
+    ≡ ((first_from (name_length ws) 0 (switch_rows ws) ++ first_from (name_length ws) (0 + switch_rows ws) (function_rows ws))
+    ++ first_from (name_length ws) (0 + pointer_names_at ws) (pointer_rows ws)) ++ first_from (name_length ws) (0 + target_names_at ws) (target_rows ws) =
     first_from-split (name_length ws) 0 (target_names_at ws) (target_rows ws)
     ∙ ap (λ (x : List ℕ). x ++ first_from (name_length ws) (0 + target_names_at ws) (target_rows ws)) (first_from-split (name_length ws) 0 (pointer_names_at ws) (pointer_rows ws)
     ∙ ap (λ (x : List ℕ). x ++ first_from (name_length ws) (0 + pointer_names_at ws) (pointer_rows ws)) (first_from-split (name_length ws) 0 (switch_rows ws) (function_rows ws))) in
-    let all : first_from (name_length ws) 0 (names ws) ≡ ((map (λ (row : SwitchRow). row.length) image.switches ++ map (λ (row : FunctionRow). row.length) image.functions) ++ map (λ (row : PointerRow). row.length) image.pointers) ++ map (λ (row : TargetRow). row.length) image.targets =
+    let all : first_from (name_length ws) 0 (names ws)
+    ≡ ((map (λ (row : SwitchRow). row.length) image.switches ++ map (λ (row : FunctionRow). row.length) image.functions)
+    ++ map (λ (row : PointerRow). row.length) image.pointers) ++ map (λ (row : TargetRow). row.length) image.targets =
     split ∙ rw (switches, functions, pointers, targets) refl in
     r.lengths ∙ first_of-from (name_length ws) (names ws) ∙ all ∙ (simp append_assoc)
 
@@ -526,18 +561,14 @@ is_spelling bytes image fits sp r =
     let back = names_are_read (words_of bytes) bytes image fit len (names_keep bytes sp) r in
     sym (ap (λ (x : List ℕ). x ++ names_in image) front ∙ ap (λ (x : List ℕ). take (4 * end_of bytes) bytes ++ x) back ∙ take-append-drop (4 * end_of bytes) bytes)
 
-no_items : {T : Type 0} (xs : List T) → length xs ≡ 0 → xs ≡ []
-no_items [] e = refl
-no_items (x ∷ xs) e = absurd (omega (arith, e))
-
 -- only version 2 has anything of pointers
 first_has_none : (ws bytes : List ℕ) (image : Fields) → IsRead ws bytes image → eqb image.version 2 ≡ false → HasNoPointers image
 first_has_none ws bytes image r e =
     let no : is_second ws ≡ false = ap (λ (n : ℕ). eqb n 2) (sym r.version) ∙ e in
     record {
-      pointers = no_items _ (r.pointers_count ∙ later_none ws pointers_place no);
-      points = no_items _ (r.points_count ∙ later_none ws points_place no);
-      targets = no_items _ (r.targets_count ∙ later_none ws targets_place no);
+      pointers = nil_from_length _ (r.pointers_count ∙ later_none ws pointers_place no);
+      points = nil_from_length _ (r.points_count ∙ later_none ws points_place no);
+      targets = nil_from_length _ (r.targets_count ∙ later_none ws targets_place no);
       check = r.check ∙ later_none ws check_place no;
     }
 

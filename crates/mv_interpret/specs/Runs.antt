@@ -8,7 +8,7 @@ use Rattle.mv_ast.specs.declared.program.Arm.{Arm}
 use Rattle.mv_ast.specs.Worlds.{World, Outcome, Came, Stopped}
 use Rattle.mv_bindings.specs.Acts.{act_of}
 use Rattle.mv_ast.specs.Switches.{with_word}
-use Rattle.mv_ast.specs.Counts.{patchable}
+use Rattle.mv_ast.specs.Counts.{patchable_places}
 use Rattle.mv_meaning.specs.declared.state.Frame.{Frame}
 use Rattle.mv_interpret.specs.declared.state.Here.{Here}
 use Rattle.mv_interpret.specs.declared.state.State.{State}
@@ -29,7 +29,7 @@ pub record IsReady (p : Program) (depth live plan_work : ℕ) : Type 0 where
   pub functions : length p.functions + length p.pointers < 2 ^ 32
   pub deep : depth ≤ traps.depth_limit
   pub lively : live ≤ depth
-  pub plans : plan_work ≡ capped (1 + patchable p)
+  pub plans : plan_work ≡ capped (1 + patchable_places p)
 
 -- the world that a state shows
 abbrev pub world_of : Here → State → World

@@ -93,7 +93,7 @@ pub fn returned_value(flow: Flow) -> u32
     }
 }
 
-// The value of an expression (C11 6.5).
+// The value of an expression (C11 6.5): an arm for each form.
 #[cycle(evaluation)]
 fn value_of(
     program: &Program,
@@ -531,7 +531,7 @@ fn call(
     }
 }
 
-// What a statement does (C11 6.8).
+// What a statement does (C11 6.8): an arm for each form.
 #[cycle(evaluation)]
 fn flow_of(
     program: &Program,

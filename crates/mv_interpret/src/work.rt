@@ -2,7 +2,7 @@
 
 ghost use Rattle.std.specs.Prelude.{◌≡◌, ◌+◌, ◌*◌, if◌then◌else◌, map, sum, length, slice_get, option_to_list};
 ghost use Rattle.mv_ast.specs.Switches.{attributed_functions, switch_domain};
-ghost use Rattle.mv_ast.specs.Counts.{expr_calls, target_calls, is_pointer, expr_calling, lvalue_calling, expr_calls_through, expr_sites, stmt_sites, arm_sites, call_sites, assignments, patchable, product_of, is_attributed};
+ghost use Rattle.mv_ast.specs.Counts.{expr_calls, target_calls, is_pointer, expr_calling, lvalue_calling, expr_calls_through, expr_sites, stmt_sites, arm_sites, call_sites, assignments, patchable_places, product_of, is_attributed};
 ghost use Rattle.mv_meaning.specs.Growth.{capped};
 
 use crate::commits::is_among;
@@ -99,7 +99,7 @@ fn is_pointer(program: &Program, global: u32) -> bool
     is_among(global, program.pointers.as_slice())
 }
 
-// The calls through pointer switches in an expression, which is what is called or a value.
+// The calls through pointer switches in an expression, which is what is called or a value: an arm for each form.
 #[cycle(calls_through)]
 fn expr_calls_through(program: &Program, e: &Expr, called: bool) -> u64
     ensures { result ≡ capped (expr_calling (is_pointer program.now) e.now called) }
@@ -311,7 +311,7 @@ pub fn count_attributed(program: &Program) -> u64
 
 /// The work of a commit or a revert: one, and one for each word that it may patch.
 pub fn plan_work(program: &Program) -> u64
-    ensures { result ≡ capped (1 + patchable program.now) }
+    ensures { result ≡ capped (1 + patchable_places program.now) }
 {
     let mut all: u64 = 0;
     for g in program.functions.as_slice() {

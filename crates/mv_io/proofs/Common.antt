@@ -1,9 +1,9 @@
 -- Lemmas on this crate's words that the crates above share.
 use Rattle.std.proofs.Common.{ℕ, ◌≡◌, ◌≤◌, ◌<◌, ◌+◌, ◌^◌, Bool, true, false, List, [], ◌∷◌, ◌++◌, Option, Some, None, refl, sym, ap, ◌∙◌, arith, subst}
-use Rattle.std.specs.Prelude.{All, IfSome, Result}
+use Rattle.std.specs.Prelude.{All, IfSome}
 use Rattle.std.proofs.lemmas.List.{append-nil, append_assoc}
 use Rattle.std.proofs.lemmas.List.Elements.{All-append, All-nil}
-use Rattle.mv_io.specs.Outside.{AreToldBytes, CountAfter, HasCause, Lost, MayCome, OnInput, Rose}
+use Rattle.mv_io.specs.Outside.{AreToldBytes, CountAfter, Lost, MayCome, OnInput, Rose}
 
 pub rose_later : (a b c : ℕ) → a ≤ b → Rose b c → Rose a c
 rose_later a b c h r = omega arith
@@ -18,9 +18,6 @@ count_since failed a b c same h = subst (λ k. CountAfter failed k c) same h
 
 pub rose_since : (a b c : ℕ) → b ≡ a → Rose b c → Rose a c
 rose_since a b c same r = subst (λ k. Rose k c) same r
-
-pub cause_since : {T E : Type 0} (a b c : ℕ) (result : Result T E) → b ≡ a → HasCause b c result → HasCause a c result
-cause_since a b c result same h = subst (λ k. HasCause k c result) same h
 
 pub count_most : (failed : Bool) (before now : ℕ) → CountAfter failed before now → now ≤ before + 1
 count_most true before now h = h

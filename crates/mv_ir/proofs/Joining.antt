@@ -1,8 +1,8 @@
 -- Measures of lists that are put together, of a tree, and of what a body begins with.
-use Rattle.std.proofs.Common.{◌≡◌, ℕ, zero, suc, ◌+◌, ◌-◌, ◌<◌, ◌≤◌, Bool, List, [], ◌∷◌, ◌++◌, length, map, max, refl, sym, ◌∙◌, ap, subst, arith, append_assoc, ◌⊎◌, inl, inr}
+use Rattle.std.proofs.Common.{◌≡◌, ℕ, zero, suc, ◌+◌, ◌-◌, ◌<◌, ◌≤◌, Bool, true, List, [], ◌∷◌, ◌++◌, length, map, max, refl, sym, ◌∙◌, ap, subst, arith, append_assoc, ◌⊎◌, inl, inr}
 use Rattle.std.specs.Prelude.{◌||◌, slice_index}
 use Rattle.std.proofs.Math.Bool.{or_assoc}
-use Rattle.std.proofs.lemmas.Bool.{cases_lt}
+use Rattle.std.proofs.lemmas.Bool.{cases_lt, or_left, or_right}
 use Rattle.std.proofs.lemmas.List.{length-append}
 use Rattle.mv_ir.specs.declared.tree.Tree.{Tree}
 use Rattle.mv_ir.specs.declared.tree.Tree.TheOpen.{Tree-F}
@@ -11,7 +11,7 @@ use Rattle.mv_ir.specs.declared.tree.Tree.TheViews.{roll-Tree}
 use Rattle.mv_ir.specs.declared.stm.Stm.{Stm}
 use Rattle.mv_ir.specs.Trees.{depth, nodes_of_all}
 use Rattle.mv_ir.specs.Measures.{joined, total, stm_trees, trees}
-use Rattle.mv_ir.specs.Live.{reads_temp, any_reads, Around, Flow, with_after, live_in_order, marks_in_order, greatest_up_to}
+use Rattle.mv_ir.specs.Live.{reads_temp, any_reads, Around, Flow, with_after, live_in_order, marks_in_order, mark_at, greatest_up_to}
 use Rattle.mv_ir.specs.Meaning.{first_items, first_temps}
 use Rattle.mv_ir.proofs.Induction.{Each, TreeChildren, tree_ind}
 use Rattle.mv_ir.proofs.Keeping.{map_append}
@@ -51,6 +51,12 @@ pub any_reads_append : (t : ℕ) (xs ys : List Tree) → any_reads t (xs ++ ys) 
 any_reads_append t [] ys = refl
 any_reads_append t (x ∷ xs) ys = ap (λ b. reads_temp t x || b) (any_reads_append t xs ys) ∙ sym (or_assoc (reads_temp t x) (any_reads t xs) (any_reads t ys))
 
+pub reads_left : (t : ℕ) (xs ys : List Tree) → any_reads t xs ≡ true → any_reads t (xs ++ ys) ≡ true
+reads_left t xs ys e = any_reads_append t xs ys ∙ or_left (any_reads t xs) (any_reads t ys) e
+
+pub reads_right : (t : ℕ) (xs ys : List Tree) → any_reads t ys ≡ true → any_reads t (xs ++ ys) ≡ true
+reads_right t xs ys e = any_reads_append t xs ys ∙ or_right (any_reads t xs) (any_reads t ys) e
+
 pub trees_append : (xs ys : List Stm) → trees (xs ++ ys) ≡ trees xs ++ trees ys
 trees_append xs ys = ap joined (map_append stm_trees xs ys) ∙ joined_append (map stm_trees xs) (map stm_trees ys)
 
@@ -82,6 +88,17 @@ marks_append (x ∷ xs) ys r =
 pub any_append : (xs ys : List Bool) → any_of (xs ++ ys) ≡ (any_of xs || any_of ys)
 any_append [] ys = refl
 any_append (x ∷ xs) ys = ap (λ b. x || b) (any_append xs ys) ∙ sym (or_assoc x (any_of xs) (any_of ys))
+
+pub any_left : (xs ys : List Bool) → any_of xs ≡ true → any_of (xs ++ ys) ≡ true
+any_left xs ys e = any_append xs ys ∙ or_left (any_of xs) (any_of ys) e
+
+pub any_right : (xs ys : List Bool) → any_of ys ≡ true → any_of (xs ++ ys) ≡ true
+any_right xs ys e = any_append xs ys ∙ or_right (any_of xs) (any_of ys) e
+
+pub marked_any : (xs : List Bool) (i : ℕ) → mark_at xs i ≡ true → any_of xs ≡ true
+marked_any [] i e = e
+marked_any (x ∷ xs) zero e = or_left x (any_of xs) e
+marked_any (x ∷ xs) (suc i) e = or_right x (any_of xs) (marked_any xs i e)
 
 pub greatest_most : (n : ℕ) (f : ℕ → ℕ) (i : ℕ) → i < n → f i ≤ greatest_up_to n f
 greatest_most zero f i lt = absurd (omega (arith, lt))

@@ -137,7 +137,9 @@ module _ (setting : Setting) (frame frame' : Frame) where
       (subst (λ r. KeepsRun r (then_do (code_meaning setting frame' xs' bound s) (code_meaning setting frame' ys' bound))) (sym (joined_runs frame xs ys bound s)) mid)
 
   -- one statement, where the step of its layer keeps the meaning of another's
-  pub between_one : (x y : Stm-F Stm) → KeepsMeaning (statement setting frame (map-Stm Stm Meaning (meaning setting frame) x)) (statement setting frame' (map-Stm Stm Meaning (meaning setting frame') y)) → B (roll-Stm x ∷ []) (roll-Stm y ∷ [])
+  pub between_one : (x y : Stm-F Stm) →
+      KeepsMeaning (statement setting frame (map-Stm Stm Meaning (meaning setting frame) x)) (statement setting frame' (map-Stm Stm Meaning (meaning setting frame') y)) →
+      B (roll-Stm x ∷ []) (roll-Stm y ∷ [])
   between_one x y h bound s =
       subst (λ r. KeepsRun (code_meaning setting frame (roll-Stm x ∷ []) bound s) r) (sym (one_meaning setting frame' y bound s))
       (subst (λ r. KeepsRun r (statement setting frame' (map-Stm Stm Meaning (meaning setting frame') y) bound s)) (sym (one_meaning setting frame x bound s)) (h bound s))

@@ -111,7 +111,8 @@ body_monotone setting frame x args b b' w k =
     let r = code_monotone setting frame x.code b b' k (entry_state cleared x args w) in
     record { same = ap body_end r.same; cheaper = r.cheaper }
 
-called_keeps : (setting : Setting) (o o' : Option Code) → KeepsFound o o' → (b b' : Bound) → KeepsBound b b' → (args : List ℕ) (depth live : ℕ) (w : World) → KeepsCall (called setting o b args depth live w) (called setting o' b' args depth live w)
+called_keeps : (setting : Setting) (o o' : Option Code) → KeepsFound o o' → (b b' : Bound) → KeepsBound b b' →
+    (args : List ℕ) (depth live : ℕ) (w : World) → KeepsCall (called setting o b args depth live w) (called setting o' b' args depth live w)
 called_keeps setting None None h b b' k args depth live w = record { same = refl; cheaper = omega arith }
 called_keeps setting None (Some c') h b b' k args depth live w = absurd h
 called_keeps setting (Some c) None h b b' k args depth live w = absurd h

@@ -17,7 +17,10 @@ use Rattle.mv_ir.specs.Meaning.{elements, outside, with_global, with_elements, p
 use Rattle.mv_ir.proofs.Relating.{Rel, StateRel, Places, OutcomeRel, RunRel, MeaningRel}
 
 -- from states that differ in the temporaries alone
-pub from_temps : (p : Rel) (q : Places) (m m' : Meaning) → ((bound : Bound) (xs ys : List ℕ) (arrays : List (List ℕ)) (w : World) → p xs ys → RunRel q (m bound (record { temps = xs; arrays = arrays; world = w })) (m' bound (record { temps = ys; arrays = arrays; world = w }))) → MeaningRel p q m m'
+pub from_temps : (p : Rel) (q : Places) (m m' : Meaning) →
+    ((bound : Bound) (xs ys : List ℕ) (arrays : List (List ℕ)) (w : World) → p xs ys →
+    RunRel q (m bound (record { temps = xs; arrays = arrays; world = w })) (m' bound (record { temps = ys; arrays = arrays; world = w }))) →
+    MeaningRel p q m m'
 from_temps p q m m' h bound s s' e =
     subst (λ a. RunRel q (m bound s) (m' bound (record { temps = s'.temps; arrays = a; world = s'.world }))) e.arrays
     (subst (λ w. RunRel q (m bound s) (m' bound (record { temps = s'.temps; arrays = s.arrays; world = w }))) e.world (h bound s.temps s'.temps s.arrays s.world e.temps))
@@ -73,7 +76,9 @@ module _ (setting : Setting) (frame : Frame) where
         let ea = ha.value xs ys world.globals h in
         let eb = hb.value xs ys world.globals h in
         record {
-          outcome = cond_rel q _ _ _ _ _ _ (ap (λ x. eqb x 0) eb) refl (record { temps = written p q.next t t' xs ys _ _ w h (ap (λ x. divide o x (val b xs world.globals)) ea ∙ ap (λ x. divide o (val a' ys world.globals) x) eb); arrays = refl; world = refl });
+          outcome =
+              cond_rel q _ _ _ _ _ _ (ap (λ x. eqb x 0) eb) refl
+              (record { temps = written p q.next t t' xs ys _ _ w h (ap (λ x. divide o x (val b xs world.globals)) ea ∙ ap (λ x. divide o (val a' ys world.globals) x) eb); arrays = refl; world = refl });
           cheaper = omega (arith, ha.smaller, hb.smaller);
         })
 
@@ -86,7 +91,10 @@ module _ (setting : Setting) (frame : Frame) where
 
     pub check_rel : (a : Array) (i i' : Tree) → SameIn p i i' → Weaker p q.next → MeaningRel p q (act (stm.Check a i)) (act (stm.Check a i'))
     check_rel a i i' hi w = from_temps p q _ _ (λ bound xs ys arrays world h. record {
-      outcome = cond_rel q _ _ _ _ _ _ (ap (λ x. ltb x (length (elements a (record { temps = xs; arrays = arrays; world = world })))) (hi.value xs ys world.globals h) ∙ ap (λ l. ltb (val i' ys world.globals) (length l)) (elements_same a xs ys arrays world)) (record { temps = w xs ys h; arrays = refl; world = refl }) (ap (λ x. outside a x world) (hi.value xs ys world.globals h));
+      outcome =
+          cond_rel q _ _ _ _ _ _ (ap (λ x. ltb x (length (elements a (record { temps = xs; arrays = arrays; world = world }))))
+          (hi.value xs ys world.globals h) ∙ ap (λ l. ltb (val i' ys world.globals) (length l)) (elements_same a xs ys arrays world))
+          (record { temps = w xs ys h; arrays = refl; world = refl }) (ap (λ x. outside a x world) (hi.value xs ys world.globals h));
       cheaper = omega (arith, hi.smaller);
     })
 
@@ -96,11 +104,19 @@ module _ (setting : Setting) (frame : Frame) where
         let es = elements_same a xs ys arrays world in
         record {
           outcome = cond_rel q _ _ _ _ _ _ (ap (λ x. ltb x (length (elements a (record { temps = xs; arrays = arrays; world = world })))) e ∙ ap (λ l. ltb (val i' ys world.globals) (length l)) es)
-              (record { temps = written p q.next t t' xs ys _ _ w h (ap (λ x. slice_index (elements a (record { temps = xs; arrays = arrays; world = world })) x) e ∙ ap (λ l. slice_index l (val i' ys world.globals)) es); arrays = refl; world = refl }) (ap (λ x. outside a x world) e);
+              (record {
+                temps = written p q.next t t' xs ys _ _ w h
+                    (ap (λ x. slice_index (elements a (record { temps = xs; arrays = arrays; world = world })) x) e ∙
+                    ap (λ l. slice_index l (val i' ys world.globals)) es);
+                arrays = refl;
+                world = refl;
+              })
+              (ap (λ x. outside a x world) e);
           cheaper = omega (arith, hi.smaller);
         })
 
-    stored : (a : Array) (xs ys : List ℕ) (arrays : List (List ℕ)) (w : World) (l l' : List ℕ) → Weaker p q.next → p xs ys → l ≡ l' → StateRel q.next (with_elements a (record { temps = xs; arrays = arrays; world = w }) l) (with_elements a (record { temps = ys; arrays = arrays; world = w }) l')
+    stored : (a : Array) (xs ys : List ℕ) (arrays : List (List ℕ)) (w : World) (l l' : List ℕ) → Weaker p q.next → p xs ys → l ≡ l' →
+        StateRel q.next (with_elements a (record { temps = xs; arrays = arrays; world = w }) l) (with_elements a (record { temps = ys; arrays = arrays; world = w }) l')
     stored (array.Global g) xs ys arrays w l l' k h e = record { temps = k xs ys h; arrays = refl; world = ap (λ x. with_global w g x) e }
     stored (array.Local n) xs ys arrays w l l' k h e = record { temps = k xs ys h; arrays = ap (λ x. slice_set arrays n x) e; world = refl }
     stored (array.SureGlobal g n) xs ys arrays w l l' k h e = record { temps = k xs ys h; arrays = refl; world = ap (λ x. with_global w g x) e }
@@ -113,7 +129,11 @@ module _ (setting : Setting) (frame : Frame) where
         let es = elements_same a xs ys arrays world in
         record {
           outcome = cond_rel q _ _ _ _ _ _ (ap (λ x. ltb x (length (elements a (record { temps = xs; arrays = arrays; world = world })))) e ∙ ap (λ l. ltb (val i' ys world.globals) (length l)) es)
-              (stored a xs ys arrays world _ _ w h (ap (λ x. slice_set (elements a (record { temps = xs; arrays = arrays; world = world })) x (val v xs world.globals)) e ∙ ap (λ x. slice_set (elements a (record { temps = xs; arrays = arrays; world = world })) (val i' ys world.globals) x) ev ∙ ap (λ l. slice_set l (val i' ys world.globals) (val v' ys world.globals)) es)) (ap (λ x. outside a x world) e);
+              (stored a xs ys arrays world _ _ w h
+              (ap (λ x. slice_set (elements a (record { temps = xs; arrays = arrays; world = world })) x (val v xs world.globals)) e ∙
+              ap (λ x. slice_set (elements a (record { temps = xs; arrays = arrays; world = world })) (val i' ys world.globals) x) ev ∙
+              ap (λ l. slice_set l (val i' ys world.globals) (val v' ys world.globals)) es))
+              (ap (λ x. outside a x world) e);
           cheaper = omega (arith, hi.smaller, hv.smaller);
         })
 
@@ -170,7 +190,8 @@ module _ (setting : Setting) (frame : Frame) where
     Puts (Some t) None = ⊥
     Puts (Some t) (Some t') = Writes p q.next t t'
 
-    put_rel : (r r' : Option ℕ) (v : ℕ) (xs ys : List ℕ) (arrays : List (List ℕ)) (w : World) → Puts r r' → p xs ys → StateRel q.next (put r v (record { temps = xs; arrays = arrays; world = w })) (put r' v (record { temps = ys; arrays = arrays; world = w }))
+    put_rel : (r r' : Option ℕ) (v : ℕ) (xs ys : List ℕ) (arrays : List (List ℕ)) (w : World) → Puts r r' → p xs ys →
+        StateRel q.next (put r v (record { temps = xs; arrays = arrays; world = w })) (put r' v (record { temps = ys; arrays = arrays; world = w }))
     put_rel None None v xs ys arrays w k h = record { temps = k xs ys h; arrays = refl; world = refl }
     put_rel None (Some t') v xs ys arrays w k h = absurd k
     put_rel (Some t) None v xs ys arrays w k h = absurd k
@@ -183,7 +204,8 @@ module _ (setting : Setting) (frame : Frame) where
         let e = same_values args args' xs ys world.globals ha h in
         let second : List ℕ → Run = λ l. spend (30 + 3 * nodes_of_all args') (record { cost = (answer l).cost; outcome = Next (put r' (answer l).value (record { temps = ys; arrays = arrays; world = (answer l).world })) }) in
         let here = map (λ t. val t xs world.globals) args in
-        let start : RunRel q (act (stm.Known r k args) bound (record { temps = xs; arrays = arrays; world = world })) (second here) = record { outcome = put_rel r r' (answer here).value xs ys arrays (answer here).world hp h; cheaper = omega (arith, less) } in
+        let start : RunRel q (act (stm.Known r k args) bound (record { temps = xs; arrays = arrays; world = world })) (second here) =
+        record { outcome = put_rel r r' (answer here).value xs ys arrays (answer here).world hp h; cheaper = omega (arith, less) } in
         subst (RunRel q (act (stm.Known r k args) bound (record { temps = xs; arrays = arrays; world = world }))) (ap second e) start)
 
     abbrev pub SameCalleeIn : Callee → Callee → Type 0
@@ -193,7 +215,8 @@ module _ (setting : Setting) (frame : Frame) where
     SameCalleeIn callee.Expanded callee.Expanded = Unit {0}
     SameCalleeIn _ _ = ⊥
 
-    same_goal : (f f' : Callee) (xs ys : List ℕ) (arrays : List (List ℕ)) (w : World) → SameCalleeIn f f' → p xs ys → goal setting frame f (record { temps = xs; arrays = arrays; world = w }) ≡ goal setting frame f' (record { temps = ys; arrays = arrays; world = w })
+    same_goal : (f f' : Callee) (xs ys : List ℕ) (arrays : List (List ℕ)) (w : World) → SameCalleeIn f f' → p xs ys →
+        goal setting frame f (record { temps = xs; arrays = arrays; world = w }) ≡ goal setting frame f' (record { temps = ys; arrays = arrays; world = w })
     same_goal (callee.Direct f) (callee.Direct f') xs ys arrays w h e = ap At h
     same_goal (callee.Through t) (callee.Through t') xs ys arrays w h e = ap (goal_of setting.numbers) (h.value xs ys w.globals e)
     same_goal (callee.Switched g) (callee.Switched g') xs ys arrays w h e = ap (λ k. goal_of setting.numbers (setting.switched k w)) h
@@ -215,7 +238,8 @@ module _ (setting : Setting) (frame : Frame) where
     same_cost _ _ h = absurd h
 
     -- what a callee's end gives
-    end_rel : (r r' : Option ℕ) (xs ys : List ℕ) (arrays : List (List ℕ)) (w : World) (e : End) → Puts r r' → p xs ys → OutcomeRel q (call_end r (record { temps = xs; arrays = arrays; world = w }) e) (call_end r' (record { temps = ys; arrays = arrays; world = w }) e)
+    end_rel : (r r' : Option ℕ) (xs ys : List ℕ) (arrays : List (List ℕ)) (w : World) (e : End) → Puts r r' → p xs ys →
+        OutcomeRel q (call_end r (record { temps = xs; arrays = arrays; world = w }) e) (call_end r' (record { temps = ys; arrays = arrays; world = w }) e)
     end_rel None None xs ys arrays w (Returned v x) k h = record { temps = k xs ys h; arrays = refl; world = refl }
     end_rel None None xs ys arrays w (Trapped c x) k h = refl
     end_rel None None xs ys arrays w (More x) k h = refl
@@ -228,12 +252,16 @@ module _ (setting : Setting) (frame : Frame) where
     end_rel (Some t) (Some t') xs ys arrays w (More x) k h = refl
     end_rel (Some t) (Some t') xs ys arrays w Stuck k h = refl
 
-    to_rel : (g : Goal) (r r' : Option ℕ) (values : List ℕ) (xs ys : List ℕ) (arrays : List (List ℕ)) (w : World) (bound : Bound) → Puts r r' → p xs ys → RunRel q (call_to g frame.depth frame.live r values bound (record { temps = xs; arrays = arrays; world = w })) (call_to g frame.depth frame.live r' values bound (record { temps = ys; arrays = arrays; world = w }))
+    to_rel : (g : Goal) (r r' : Option ℕ) (values : List ℕ) (xs ys : List ℕ) (arrays : List (List ℕ)) (w : World) (bound : Bound) → Puts r r' →
+        p xs ys → RunRel q (call_to g frame.depth frame.live r values bound (record { temps = xs; arrays = arrays; world = w }))
+        (call_to g frame.depth frame.live r' values bound (record { temps = ys; arrays = arrays; world = w }))
     to_rel Nowhere r r' values xs ys arrays w bound k h = record { outcome = refl; cheaper = omega arith }
     to_rel Null r r' values xs ys arrays w bound k h = record { outcome = refl; cheaper = omega arith }
     to_rel (At f) r r' values xs ys arrays w bound k h = either_rel (ltb frame.depth 512) (ltb frame.depth 512) _ _ _ _ refl (inside bound) (record { outcome = refl; cheaper = omega arith })
       where
-        inside : (bound : Bound) → RunRel q (within bound (λ calls. made_call r (record { temps = xs; arrays = arrays; world = w }) (calls f values frame.depth frame.live w)) (record { temps = xs; arrays = arrays; world = w })) (within bound (λ calls. made_call r' (record { temps = ys; arrays = arrays; world = w }) (calls f values frame.depth frame.live w)) (record { temps = ys; arrays = arrays; world = w }))
+        inside : (bound : Bound) →
+            RunRel q (within bound (λ calls. made_call r (record { temps = xs; arrays = arrays; world = w }) (calls f values frame.depth frame.live w)) (record { temps = xs; arrays = arrays; world = w }))
+            (within bound (λ calls. made_call r' (record { temps = ys; arrays = arrays; world = w }) (calls f values frame.depth frame.live w)) (record { temps = ys; arrays = arrays; world = w }))
         inside [] = record { outcome = refl; cheaper = omega arith }
         inside (calls ∷ below) = record { outcome = end_rel r r' xs ys arrays w (calls f values frame.depth frame.live w).end k h; cheaper = omega arith }
     to_rel Inside r r' values xs ys arrays w bound k h = either_rel (ltb frame.depth 512) (ltb frame.depth 512) _ _ _ _ refl (inside bound) (record { outcome = refl; cheaper = omega arith })
@@ -241,7 +269,9 @@ module _ (setting : Setting) (frame : Frame) where
         nothing : Call
         nothing = record { cost = 0; end = Returned None w }
 
-        inside : (bound : Bound) → RunRel q (within bound (λ calls. made_call r (record { temps = xs; arrays = arrays; world = w }) nothing) (record { temps = xs; arrays = arrays; world = w })) (within bound (λ calls. made_call r' (record { temps = ys; arrays = arrays; world = w }) nothing) (record { temps = ys; arrays = arrays; world = w }))
+        inside : (bound : Bound) →
+            RunRel q (within bound (λ calls. made_call r (record { temps = xs; arrays = arrays; world = w }) nothing) (record { temps = xs; arrays = arrays; world = w }))
+            (within bound (λ calls. made_call r' (record { temps = ys; arrays = arrays; world = w }) nothing) (record { temps = ys; arrays = arrays; world = w }))
         inside [] = record { outcome = refl; cheaper = omega arith }
         inside (calls ∷ below) = record { outcome = end_rel r r' xs ys arrays w (Returned None w) k h; cheaper = omega arith }
 
@@ -254,5 +284,9 @@ module _ (setting : Setting) (frame : Frame) where
         let there = goal setting frame f (record { temps = xs; arrays = arrays; world = world }) in
         let second : Goal → List ℕ → Run = λ g l. spend (call_cost f' + 3 * (callee_nodes setting frame f' + nodes_of_all args')) (call_to g frame.depth frame.live r' l bound (record { temps = ys; arrays = arrays; world = world })) in
         let inner = to_rel there r r' here xs ys arrays world bound hp h in
-        let start : RunRel q (act (stm.Call r f args) bound (record { temps = xs; arrays = arrays; world = world })) (second there here) = record { outcome = inner.outcome; cheaper = omega (arith, inner.cheaper, less, less_callee, cost) } in
-        subst (RunRel q (act (stm.Call r f args) bound (record { temps = xs; arrays = arrays; world = world }))) (ap (λ g. second g here) (same_goal f f' xs ys arrays world hf h) ∙ ap (second (goal setting frame f' (record { temps = ys; arrays = arrays; world = world }))) (same_values args args' xs ys world.globals ha h)) start)
+        let start : RunRel q (act (stm.Call r f args) bound (record { temps = xs; arrays = arrays; world = world })) (second there here) =
+        record { outcome = inner.outcome; cheaper = omega (arith, inner.cheaper, less, less_callee, cost) } in
+        subst (RunRel q (act (stm.Call r f args) bound (record { temps = xs; arrays = arrays; world = world })))
+        (ap (λ g. second g here) (same_goal f f' xs ys arrays world hf h) ∙
+        ap (second (goal setting frame f' (record { temps = ys; arrays = arrays; world = world })))
+        (same_values args args' xs ys world.globals ha h)) start)

@@ -29,12 +29,6 @@ KeepsBody b b' =
     (setting : Setting) (frame : Frame) (contents : Contents) (args : List ℕ) (bound : Bound) (w : World) →
     KeepsCall (body_from setting frame contents b args bound w) (body_from setting frame contents b' args bound w)
 
--- of two bodies in every frame in which the switches are read as these values
-abbrev pub KeepsUnder : List (ℕ × ℕ) → Body → Body → Type 0
-KeepsUnder ps b b' =
-    (setting : Setting) (depth live : ℕ) (contents : Contents) (args : List ℕ) (bound : Bound) (w : World) →
-    KeepsCall (body_from setting (record { depth = depth; live = live; bound = ps }) contents b args bound w) (body_from setting (record { depth = depth; live = live; bound = ps }) contents b' args bound w)
-
 -- it is kept by doing nothing, and by one thing after the other
 pub record KeepsOrder : Type 0 where
   pub reflexive : (b : Body) → KeepsBody b b

@@ -6,7 +6,7 @@ use Rattle.mv_ast.specs.declared.program.Known.TheVariants.{Getchar, Putchar, Po
 use Rattle.mv_ast.specs.Worlds as source
 use Rattle.mv_ast.specs.Orders.{Answered, ordered, polled}
 use Rattle.mv_ast.specs.Switches.{word_at, pointer_number, called_word}
-use Rattle.mv_ast.specs.Counts.{patchable}
+use Rattle.mv_ast.specs.Counts.{patchable_places}
 use Rattle.mv_ir.specs.World.{World, Answer}
 
 -- ---- the world of the source
@@ -62,7 +62,7 @@ written v w = record { value = v % 256; world = record w { output = w.output ++ 
 
 -- what a commit, a revert or a flip costs, refused or not
 abbrev pub patch_cost : Program → ℕ
-patch_cost p = 30 * (1 + patchable p)
+patch_cost p = 30 * (1 + patchable_places p)
 
 abbrev pub at_cost : ℕ → Answered → Answer
 at_cost cost a = record { value = a.answer; world = seen a.world; cost = cost }

@@ -38,6 +38,13 @@ with_elements (array.Local l) s xs = record s { arrays = slice_set s.arrays l xs
 with_elements (array.SureGlobal g n) s xs = with_world s (with_global s.world g xs)
 with_elements (array.SureLocal l n) s xs = record s { arrays = slice_set s.arrays l xs }
 
+-- the array without what is promised of its indices
+abbrev pub unpromised : Array → Array
+unpromised (array.Global g) = array.Global g
+unpromised (array.Local l) = array.Local l
+unpromised (array.SureGlobal g n) = array.Global g
+unpromised (array.SureLocal l n) = array.Local l
+
 abbrev pub traps : ℕ → State → Outcome
 traps c s = Ends (Trapped c s.world)
 

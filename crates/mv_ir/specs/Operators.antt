@@ -1,5 +1,5 @@
 -- The operators of trees and the divisions, by their numbers.
-use Rattle.std.specs.Prelude.{ℕ}
+use Rattle.std.specs.Prelude.{ℕ, Bool, ◌&&◌, leb}
 
 -- ---- operators on one value
 
@@ -68,6 +68,10 @@ equal = 11
 -- whether they differ
 abbrev pub not_equal : ℕ
 not_equal = 12
+
+-- one that gives 1 or 0, by how two values compare
+abbrev pub is_comparison : ℕ → Bool
+is_comparison o = leb less_signed o && leb o not_equal
 
 -- ---- divisions, which are statements
 

@@ -1,5 +1,6 @@
 -- Trees and statements of each kind.
 use Rattle.std.specs.Prelude.{ℕ, List, Option, Some}
+use Rattle.mv_num.specs.declared.kind.Kind.{Kind}
 use Rattle.mv_ast.specs.declared.program.Known.{Known}
 use Rattle.mv_ir.specs.declared.tree.Tree.{Tree}
 use Rattle.mv_ir.specs.declared.tree.Tree.TheOpen as tree
@@ -27,6 +28,9 @@ unary o a = roll-Tree (tree.Unary o a)
 
 abbrev pub binary : ℕ → Tree → Tree → Tree
 binary o a b = roll-Tree (tree.Binary o a b)
+
+abbrev pub narrow : Kind → Tree → Tree
+narrow k a = roll-Tree (tree.Narrow k a)
 
 abbrev pub set : ℕ → Tree → Stm
 set t v = roll-Stm (stm.Set t v)

@@ -3,6 +3,7 @@ use Rattle.std.proofs.Common.{◌≡◌, ℕ, zero, suc, ◌+◌, ◌*◌, ◌-�
 use Rattle.std.proofs.lemmas.Int.{ints}
 use Rattle.std.proofs.lemmas.Bool.{cases_lt}
 use Rattle.std.proofs.lemmas.List.{set-set, get_or-set_same}
+use Rattle.std.proofs.Math.Bool.{not-not}
 use lib.Signed.{mag}
 use Rattle.mv_num.specs.Words.{word_of, add, shl, lt_s, lt_u}
 use Rattle.mv_num.proofs.Signed.{word_of_is}
@@ -39,10 +40,6 @@ unfolding upper shl
 upper_gives n l = rw (word_of_is (pos n) (omega arith)) (omega (arith, ints))
 
 -- Conditions.
-
-not-not : (b : Bool) → not (not b) ≡ b
-not-not true = refl
-not-not false = refl
 
 -- the inverse of a condition holds exactly where the condition doesn't
 pub inverse_holds : (funct3 a b : ℕ) → IsCondition funct3 → branch_holds (inverse funct3) a b ≡ not (branch_holds funct3 a b)
@@ -88,7 +85,10 @@ module _ {M : Type 0} (access : Access M) (m : M) where
     where
       by_tests : (a b c d e : Bool)
           → execute access (cond a (Beq rs1 rs2 imm) (cond b (Bne rs1 rs2 imm) (cond c (Blt rs1 rs2 imm) (cond d (Bge rs1 rs2 imm) (cond e (Bltu rs1 rs2 imm) (Bgeu rs1 rs2 imm)))))) regs at m
-          ≡ branches regs at m imm (cond a (eqb (reg regs rs1) (reg regs rs2)) (cond b (not (eqb (reg regs rs1) (reg regs rs2))) (cond c (lt_s (reg regs rs1) (reg regs rs2)) (cond d (not (lt_s (reg regs rs1) (reg regs rs2))) (cond e (lt_u (reg regs rs1) (reg regs rs2)) (not (lt_u (reg regs rs1) (reg regs rs2))))))))
+          ≡ branches regs at m imm (cond a (eqb (reg regs rs1) (reg regs rs2))
+          (cond b (not (eqb (reg regs rs1) (reg regs rs2)))
+          (cond c (lt_s (reg regs rs1) (reg regs rs2))
+          (cond d (not (lt_s (reg regs rs1) (reg regs rs2))) (cond e (lt_u (reg regs rs1) (reg regs rs2)) (not (lt_u (reg regs rs1) (reg regs rs2))))))))
       by_tests true b c d e = refl
       by_tests false true c d e = refl
       by_tests false false true d e = refl

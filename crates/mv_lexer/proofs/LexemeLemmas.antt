@@ -258,7 +258,8 @@ module _ (text : List ℕ) (some : 0 < length text) where
   close_before m i within is = (sym (get_or-take m text i 0 (omega arith)) ∙ is.0, sym (get_or-take m text (i + 1) 0 within) ∙ is.1)
 
   -- a comment goes on to the first */
-  pub block_longest : (close : ℕ) → get_or text 0 0 ≡ 47 → get_or text 1 0 ≡ 42 → 2 ≤ close → close + 1 < length text → ClosesComment text close → ((i : ℕ) → 2 ≤ i → i < close → ClosesComment text i → ⊥) → IsLongestLexeme text Comment (close + 2)
+  pub block_longest : (close : ℕ) → get_or text 0 0 ≡ 47 → get_or text 1 0 ≡ 42 → 2 ≤ close → close + 1 < length text → ClosesComment text close →
+      ((i : ℕ) → 2 ≤ i → i < close → ClosesComment text i → ⊥) → IsLongestLexeme text Comment (close + 2)
   block_longest close first second behind within closes none = record {
     in_range = omega arith;
     lexeme = inr (record {
@@ -317,7 +318,9 @@ module _ (text : List ℕ) (some : 0 < length text) where
       beyond m Other longer in_range is = not_one 1 m (omega arith) longer in_range is.one
 
   -- a name goes on as far as its bytes do
-  pub identifier_longest : (n : ℕ) → is_nondigit (get_or text 0 0) ≡ true → 0 < n → n ≤ length text → ((i : ℕ) → i < n → is_identifier_byte (get_or text i 0) ≡ true) → (n < length text → is_identifier_byte (get_or text n 0) ≡ false) → IsLongestLexeme text Identifier n
+  pub identifier_longest : (n : ℕ) → is_nondigit (get_or text 0 0) ≡ true → 0 < n → n ≤ length text →
+      ((i : ℕ) → i < n → is_identifier_byte (get_or text i 0) ≡ true) → (n < length text → is_identifier_byte (get_or text n 0) ≡ false) →
+      IsLongestLexeme text Identifier n
   identifier_longest n letter positive fits each stops = record {
     in_range = fits;
     lexeme = record {
@@ -341,7 +344,9 @@ module _ (text : List ℕ) (some : 0 < length text) where
       beyond m Other longer in_range is = not_one n m positive longer in_range is.one
 
   -- a number goes on as long as bytes may follow
-  pub number_longest : (n : ℕ) → is_ascii_digit (get_or text 0 0) ≡ true → 0 < n → n ≤ length text → ((i : ℕ) → i + 1 < n → continues_number (get_or text i 0) (get_or text (i + 1) 0) ≡ true) → (n < length text → continues_number (get_or text (n - 1) 0) (get_or text n 0) ≡ false) → IsLongestLexeme text PreprocessingNumber n
+  pub number_longest : (n : ℕ) → is_ascii_digit (get_or text 0 0) ≡ true → 0 < n → n ≤ length text →
+      ((i : ℕ) → i + 1 < n → continues_number (get_or text i 0) (get_or text (i + 1) 0) ≡ true) →
+      (n < length text → continues_number (get_or text (n - 1) 0) (get_or text n 0) ≡ false) → IsLongestLexeme text PreprocessingNumber n
   number_longest n digit positive fits each stops = record {
     in_range = fits;
     lexeme = record {
@@ -373,15 +378,23 @@ module _ (text : List ℕ) (some : 0 < length text) where
       beyond m UnsupportedPunctuator longer in_range is = digit_no_punctuator (get_or text 0 0) digit (first_byte UnsupportedPunctuator m (omega arith) is)
       beyond m Other longer in_range is = not_one n m positive longer in_range is.one
 
-  module _ (no_blank : is_white_space (get_or text 0 0) ≡ false) (no_letter : is_nondigit (get_or text 0 0) ≡ false) (no_digit : is_ascii_digit (get_or text 0 0) ≡ false) (no_comment : begins_comment text ≡ false) (no_closing : NoClosing text) where
+  module _ (no_blank : is_white_space (get_or text 0 0) ≡ false) (no_letter : is_nondigit (get_or text 0 0) ≡ false)
+      (no_digit : is_ascii_digit (get_or text 0 0) ≡ false) (no_comment : begins_comment text ≡ false) (no_closing : NoClosing text) where
     -- at another byte only punctuators are longer
-    only_punctuators : (n : ℕ) → 0 < n → NoLonger Punctuators (length (entries Punctuators)) n text → NoLonger UnsupportedPunctuators (length (entries UnsupportedPunctuators)) n text → (m : ℕ) (other : TokenClass) → n < m → m ≤ length text → IsLexeme other (take m text) → ⊥
+    only_punctuators : (n : ℕ) → 0 < n → NoLonger Punctuators (length (entries Punctuators)) n text →
+        NoLonger UnsupportedPunctuators (length (entries UnsupportedPunctuators)) n text → (m : ℕ) (other : TokenClass) → n < m → m ≤ length text →
+        IsLexeme other (take m text) → ⊥
     only_punctuators n positive no_punctuator no_unsupported m WhiteSpace longer in_range is = not_one n m positive longer in_range is.one
     only_punctuators n positive no_punctuator no_unsupported m CharacterConstant longer in_range is = let found = closing_of text 39 m is.0 in_range is.1 in no_closing (inr (sym found.0)) found.1.0 found.1.2
     only_punctuators n positive no_punctuator no_unsupported m StringLiteral longer in_range is = let found = closing_of text 34 m is.0 in_range is.1 in no_closing (inl (sym found.0)) found.1.0 found.1.2
     only_punctuators n positive no_punctuator no_unsupported m Identifier longer in_range is = both_ways (is_nondigit (get_or text 0 0)) no_letter (first_byte Identifier m (omega arith) is)
-    only_punctuators n positive no_punctuator no_unsupported m Comment longer in_range is = both_ways (begins_comment text) no_comment (sym (same_start m (omega (arith, length-take-le m text in_range, comment_long (take m text) is))) ∙ comment_begins (take m text) is)
-    only_punctuators n positive no_punctuator no_unsupported m UnclosedComment longer in_range is = both_ways (begins_comment text) no_comment (sym (same_start m (omega (arith, length-take-le m text in_range, (opening 47 42 (take m text) is.opens).long))) ∙ unclosed_begins (take m text) is)
+    only_punctuators n positive no_punctuator no_unsupported m Comment longer in_range is =
+        both_ways (begins_comment text) no_comment
+        (sym (same_start m (omega (arith, length-take-le m text in_range, comment_long (take m text) is))) ∙ comment_begins (take m text) is)
+    only_punctuators n positive no_punctuator no_unsupported m UnclosedComment longer in_range is =
+        both_ways (begins_comment text) no_comment
+        (sym (same_start m (omega (arith, length-take-le m text in_range, (opening 47 42 (take m text) is.opens).long))) ∙
+        unclosed_begins (take m text) is)
     only_punctuators n positive no_punctuator no_unsupported m PreprocessingNumber longer in_range is = both_ways (is_ascii_digit (get_or text 0 0)) no_digit (first_byte PreprocessingNumber m (omega arith) is)
     only_punctuators n positive no_punctuator no_unsupported m (Punctuator k) longer in_range is = no_punctuator k m is.in_range longer in_range (sym is.is)
     only_punctuators n positive no_punctuator no_unsupported m UnsupportedPunctuator longer in_range is = no_unsupported is.0 m is.1.in_range longer in_range (sym is.1.is)
@@ -391,14 +404,18 @@ module _ (text : List ℕ) (some : 0 < length text) where
     shorter_too : (table : Table) (n n' : ℕ) → n ≤ n' → NoLonger table (length (entries table)) n text → NoLonger table (length (entries table)) n' text
     shorter_too table n n' less before k m below longer = before k m below (omega arith)
 
-    pub punctuator_longest : (k n other : ℕ) → 0 < n → n ≤ length text → IsEntry Punctuators k (take n text) → NoLonger Punctuators (length (entries Punctuators)) n text → other ≤ n → NoLonger UnsupportedPunctuators (length (entries UnsupportedPunctuators)) other text → IsLongestLexeme text (Punctuator k) n
+    pub punctuator_longest : (k n other : ℕ) → 0 < n → n ≤ length text → IsEntry Punctuators k (take n text) →
+        NoLonger Punctuators (length (entries Punctuators)) n text → other ≤ n →
+        NoLonger UnsupportedPunctuators (length (entries UnsupportedPunctuators)) other text → IsLongestLexeme text (Punctuator k) n
     punctuator_longest k n other positive fits is no_punctuator less no_unsupported = record {
       in_range = fits;
       lexeme = is;
       longest = only_punctuators n positive no_punctuator (shorter_too UnsupportedPunctuators other n less no_unsupported);
     }
 
-    pub unsupported_punctuator_longest : (k n other : ℕ) → 0 < n → n ≤ length text → IsEntry UnsupportedPunctuators k (take n text) → NoLonger UnsupportedPunctuators (length (entries UnsupportedPunctuators)) n text → other ≤ n → NoLonger Punctuators (length (entries Punctuators)) other text → IsLongestLexeme text UnsupportedPunctuator n
+    pub unsupported_punctuator_longest : (k n other : ℕ) → 0 < n → n ≤ length text → IsEntry UnsupportedPunctuators k (take n text) →
+        NoLonger UnsupportedPunctuators (length (entries UnsupportedPunctuators)) n text → other ≤ n →
+        NoLonger Punctuators (length (entries Punctuators)) other text → IsLongestLexeme text UnsupportedPunctuator n
     unsupported_punctuator_longest k n other positive fits is no_unsupported less no_punctuator = record {
       in_range = fits;
       lexeme = (k, is);

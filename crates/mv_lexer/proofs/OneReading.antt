@@ -134,7 +134,9 @@ lexemes_same at (c ∷ cs) [] text a b x p y q = absurd (q c (subst (λ t. Stand
 lexemes_same at (c ∷ cs) (d ∷ ds) text a b x p y q =
     let same = lexeme_same at.at_line_start text c d x.0 y.0 in
     let back = sym same in
-    let rest = lexemes_same (after at c.class c.bytes) cs ds (drop (length c.bytes) text) a b x.2 p (subst (λ (e : Lexeme). Scans (after at e.class e.bytes) ds (drop (length e.bytes) text) b) back y.2) (subst (λ (e : Lexeme). Stops (after_all (after at e.class e.bytes) ds).at_line_start b) back q) in
+    let rest = lexemes_same (after at c.class c.bytes) cs ds (drop (length c.bytes) text) a b x.2 p
+    (subst (λ (e : Lexeme). Scans (after at e.class e.bytes) ds (drop (length e.bytes) text) b) back y.2)
+    (subst (λ (e : Lexeme). Stops (after_all (after at e.class e.bytes) ds).at_line_start b) back q) in
     ((λ i. same i ∷ rest.0 i), rest.1)
 
 pub tokens_same : (text : List ℕ) (items items' : List Token) (end end' : Place) → AreTokens text items end → AreTokens text items' end' → (items ≡ items') × (end ≡ end')
@@ -159,7 +161,8 @@ tokens_or_refused text items end place evaluation is is' =
     no_lexeme_at_end (after_all start is'.lexemes).at_line_start is'.refused (subst (λ t. StandsInFront (after_all start is'.lexemes).at_line_start t is'.refused) (sym same.1) is'.next)
 
 -- what an answer with its cause has
-pub all_tokens : (text : List ℕ) (result : Result Tokens LexError) → IfOk result (λ tokens. AreTokens text tokens.items tokens.end) → IfErr result (IsCause text) → (items : List Token) (end : Place) → AreTokens text items end → HasTokens result items end
+pub all_tokens : (text : List ℕ) (result : Result Tokens LexError) → IfOk result (λ tokens. AreTokens text tokens.items tokens.end) →
+    IfErr result (IsCause text) → (items : List Token) (end : Place) → AreTokens text items end → HasTokens result items end
 all_tokens text (Ok tokens) ok err items end is = tokens_same text tokens.items items tokens.end end ok is
 all_tokens text (Err (BadToken at)) ok err items end is = tokens_or_refused text items end at bad is err
 all_tokens text (Err (Unsupported at)) ok err items end is = tokens_or_refused text items end at unsupported is err
@@ -167,7 +170,9 @@ all_tokens text (Err (TooLong n)) ok (inl beyond) items end is = omega (arith, b
 all_tokens text (Err (TooLong n)) ok (inr found) items end is = tokens_or_refused text items end found.0 (too_long n) is found.1
 all_tokens text (Err (Memory e)) ok err items end is = tt
 
-pub all_refusals : (text : List ℕ) (result : Result Tokens LexError) → IfOk result (λ tokens. AreTokens text tokens.items tokens.end) → IfErr result (IsCause text) → (evaluation : Evaluation) (place : Place) → IsFirstRefused text evaluation place → HasRefusal result evaluation place
+pub all_refusals : (text : List ℕ) (result : Result Tokens LexError) → IfOk result (λ tokens. AreTokens text tokens.items tokens.end) →
+    IfErr result (IsCause text) → (evaluation : Evaluation) (place : Place) → IsFirstRefused text evaluation place →
+    HasRefusal result evaluation place
 all_refusals text (Ok tokens) ok err evaluation place is = tokens_or_refused text tokens.items tokens.end place evaluation ok is
 all_refusals text (Err (BadToken at)) ok err evaluation place is = let same = refused_same text evaluation bad place at is err in (same.0, sym same.1)
 all_refusals text (Err (Unsupported at)) ok err evaluation place is = let same = refused_same text evaluation unsupported place at is err in (same.0, sym same.1)

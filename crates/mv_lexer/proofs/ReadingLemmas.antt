@@ -14,7 +14,9 @@ use Rattle.mv_syntax.specs.declared.place.Place.{Place}
 use Rattle.mv_syntax.specs.declared.token.Token.{Token}
 
 -- one more lexeme at the end
-lexemes_more : (at : Position) (lexemes : List Lexeme) (lexeme : Lexeme) (text rest : List ℕ) → Scans at lexemes text rest → StandsInFront (after_all at lexemes).at_line_start rest lexeme → IsAccepted lexeme.evaluation → Scans at (lexemes ++ lexeme ∷ []) text (drop (length lexeme.bytes) rest)
+lexemes_more : (at : Position) (lexemes : List Lexeme) (lexeme : Lexeme) (text rest : List ℕ) → Scans at lexemes text rest →
+    StandsInFront (after_all at lexemes).at_line_start rest lexeme → IsAccepted lexeme.evaluation →
+    Scans at (lexemes ++ lexeme ∷ []) text (drop (length lexeme.bytes) rest)
 lexemes_more at [] lexeme text rest same is accepted = (subst (λ t. StandsInFront at.at_line_start t lexeme) (sym same) is, accepted, ap (drop (length lexeme.bytes)) same)
 lexemes_more at (c ∷ lexemes) lexeme text rest before is accepted = (before.0, before.1, lexemes_more (after at c.class c.bytes) lexemes lexeme (drop (length c.bytes) text) rest before.2 is accepted)
 
@@ -24,7 +26,10 @@ after_all_more at (c ∷ lexemes) lexeme = after_all_more (after at c.class c.by
 
 tokens_of_more : (at : Position) (lexemes : List Lexeme) (lexeme : Lexeme) → tokens_of at (lexemes ++ lexeme ∷ []) ≡ tokens_of at lexemes ++ token_of (after_all at lexemes) lexeme.bytes lexeme.evaluation
 tokens_of_more at [] lexeme = append-nil (token_of at lexeme.bytes lexeme.evaluation)
-tokens_of_more at (c ∷ lexemes) lexeme = ap (λ ts. token_of at c.bytes c.evaluation ++ ts) (tokens_of_more (after at c.class c.bytes) lexemes lexeme) ∙ sym (append_assoc (token_of at c.bytes c.evaluation) (tokens_of (after at c.class c.bytes) lexemes) (token_of (after_all (after at c.class c.bytes) lexemes) lexeme.bytes lexeme.evaluation))
+tokens_of_more at (c ∷ lexemes) lexeme =
+    ap (λ ts. token_of at c.bytes c.evaluation ++ ts) (tokens_of_more (after at c.class c.bytes) lexemes lexeme) ∙
+    sym (append_assoc (token_of at c.bytes c.evaluation) (tokens_of (after at c.class c.bytes) lexemes)
+    (token_of (after_all (after at c.class c.bytes) lexemes) lexeme.bytes lexeme.evaluation))
 
 -- what has been read of a text
 pub record IsRead (text : List ℕ) (at : Position) (items : List Token) : Type 0 where
@@ -36,12 +41,19 @@ pub record IsRead (text : List ℕ) (at : Position) (items : List Token) : Type 
 pub read_more : (text : List ℕ) (at at' : Position) (items items' : List Token) → IsRead text at items → IsStep (drop at.offset text) at items at' items' → IsRead text at' items'
 read_more text at at' items items' before step = record {
   lexemes = before.lexemes ++ step.lexeme ∷ [];
-  reading = subst (Scans start (before.lexemes ++ step.lexeme ∷ []) text) (drop-drop (length step.lexeme.bytes) at.offset text ∙ ap (λ (p : Position). drop p.offset text) (sym step.at_is)) (lexemes_more start before.lexemes step.lexeme text (drop at.offset text) before.reading (subst (λ (p : Position). StandsInFront p.at_line_start (drop at.offset text) step.lexeme) before.at_is step.is) step.accepted);
+  reading = subst (Scans start (before.lexemes ++ step.lexeme ∷ []) text)
+      (drop-drop (length step.lexeme.bytes) at.offset text ∙ ap (λ (p : Position). drop p.offset text) (sym step.at_is))
+      (lexemes_more start before.lexemes step.lexeme text (drop at.offset text) before.reading
+      (subst (λ (p : Position). StandsInFront p.at_line_start (drop at.offset text) step.lexeme) before.at_is step.is) step.accepted);
   at_is = step.at_is ∙ ap (λ (p : Position). after p step.lexeme.class step.lexeme.bytes) before.at_is ∙ sym (after_all_more start before.lexemes step.lexeme);
-  items_are = step.items_are ∙ ap (λ ts. ts ++ token_of at step.lexeme.bytes step.lexeme.evaluation) before.items_are ∙ ap (λ (p : Position). tokens_of start before.lexemes ++ token_of p step.lexeme.bytes step.lexeme.evaluation) before.at_is ∙ sym (tokens_of_more start before.lexemes step.lexeme);
+  items_are = step.items_are ∙ ap (λ ts. ts ++ token_of at step.lexeme.bytes step.lexeme.evaluation) before.items_are ∙
+      ap (λ (p : Position). tokens_of start before.lexemes ++ token_of p step.lexeme.bytes step.lexeme.evaluation) before.at_is ∙
+      sym (tokens_of_more start before.lexemes step.lexeme);
 }
 
-refused_at : (text : List ℕ) (at : Position) (items : List Token) (evaluation : Evaluation) (place : Place) → (IsAccepted evaluation → ⊥) → length text ≤ 1048576 → IsRead text at items → IsRefused at.at_line_start (drop at.offset text) at.place evaluation place → IsFirstRefused text evaluation place
+refused_at : (text : List ℕ) (at : Position) (items : List Token) (evaluation : Evaluation) (place : Place) → (IsAccepted evaluation → ⊥) →
+    length text ≤ 1048576 → IsRead text at items → IsRefused at.at_line_start (drop at.offset text) at.place evaluation place →
+    IsFirstRefused text evaluation place
 refused_at text at items evaluation place not_accepted fits read is = record {
   fits = fits;
   lexemes = read.lexemes;
@@ -72,7 +84,8 @@ module _ (at_line_start : Bool) (rest : List ℕ) (class : TokenClass) (n : ℕ)
   }
 
   -- a lexeme that is nothing was passed
-  pub step_skipped : (at at' : Position) (items items' : List Token) → at_line_start ≡ at.at_line_start → GivesEvaluation class (take n rest) at.place (Ok None) → at' ≡ after at class (take n rest) → items' ≡ items → IsStep rest at items at' items'
+  pub step_skipped : (at at' : Position) (items items' : List Token) → at_line_start ≡ at.at_line_start →
+      GivesEvaluation class (take n rest) at.place (Ok None) → at' ≡ after at class (take n rest) → items' ≡ items → IsStep rest at items at' items'
   step_skipped at at' items items' at_line_start_is is at_is same = record {
     lexeme = record { class = class; bytes = take n rest; evaluation = skipped };
     is = subst (λ f. StandsInFront f rest (record { class = class; bytes = take n rest; evaluation = skipped })) at_line_start_is (lexeme_of skipped is);
@@ -82,7 +95,9 @@ module _ (at_line_start : Bool) (rest : List ℕ) (class : TokenClass) (n : ℕ)
   }
 
   -- a token was taken
-  pub step_token : (at at' : Position) (what : Piece) (items items' : List Token) → at_line_start ≡ at.at_line_start → GivesEvaluation class (take n rest) at.place (Ok (Some what)) → at' ≡ after at class (take n rest) → items' ≡ items ++ record { place = at.place; start = at.offset; stop = at'.offset; what = what } ∷ [] → IsStep rest at items at' items'
+  pub step_token : (at at' : Position) (what : Piece) (items items' : List Token) → at_line_start ≡ at.at_line_start →
+      GivesEvaluation class (take n rest) at.place (Ok (Some what)) → at' ≡ after at class (take n rest) →
+      items' ≡ items ++ record { place = at.place; start = at.offset; stop = at'.offset; what = what } ∷ [] → IsStep rest at items at' items'
   step_token at at' what items items' at_line_start_is is at_is more = record {
     lexeme = record { class = class; bytes = take n rest; evaluation = token what };
     is = subst (λ f. StandsInFront f rest (record { class = class; bytes = take n rest; evaluation = token what })) at_line_start_is (lexeme_of (token what) is);

@@ -21,7 +21,13 @@ record Same (p q s t p' q' s' t' : ℕ) : Type 0 where
 
 same_parts : (p q s t p' q' s' t' : ℕ) → q < 1024 → s < 2 → t < 256 → q' < 1024 → s' < 2 → t' < 256
     → p * 2147483648 + q * 2097152 + s * 1048576 + t * 4096 + 1 * 128 + 111 ≡ p' * 2147483648 + q' * 2097152 + s' * 1048576 + t' * 4096 + 1 * 128 + 111 → Same p q s t p' q' s' t'
-same_parts p q s t p' q' s' t' a b c a' b' c' e = record { first = omega (arith, a, b, c, a', b', c', e); second = omega (arith, a, b, c, a', b', c', e); third = omega (arith, a, b, c, a', b', c', e); fourth = omega (arith, a, b, c, a', b', c', e) }
+same_parts p q s t p' q' s' t' a b c a' b' c' e =
+    record {
+      first = omega (arith, a, b, c, a', b', c', e);
+      second = omega (arith, a, b, c, a', b', c', e);
+      third = omega (arith, a, b, c, a', b', c', e);
+      fourth = omega (arith, a, b, c, a', b', c', e);
+    }
 
 -- a distance of 21 bits that is even is the sum of its parts
 parts_of : (d : ℕ) → d % 2 ≡ 0 → d < 2 ^ 21 → d ≡ d / 1048576 % 2 * 1048576 + d / 4096 % 256 * 4096 + d / 2048 % 2 * 2048 + d / 2 % 1024 * 2

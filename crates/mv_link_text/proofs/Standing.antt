@@ -256,7 +256,9 @@ module _ (laws : Laws) (parts : Parts) (sizing words : List ℕ) (s : IsAssemble
       pub later_placed : IsPlacedCode parts image sizing f rest (entry f + 4)
       later_placed =
           let size = ap length items in
-          let here : at (index f + 1 + 1) ≡ entry f + 4 = word_size text_start lines sizing s.fits (index f + 1) (first_below parts sizing words s f code found instr rest items) instr (first_line parts sizing words s f code found instr rest items) ∙ ap (λ a. a + 4) (behind_label parts sizing words s f code found) in
+          let here : at (index f + 1 + 1) ≡ entry f + 4 =
+          word_size text_start lines sizing s.fits (index f + 1) (first_below parts sizing words s f code found instr rest items) instr
+          (first_line parts sizing words s f code found instr rest items) ∙ ap (λ a. a + 4) (behind_label parts sizing words s f code found) in
           let names = subst (All (NamesAreThere (length parts.functions) checks code)) items is_function.names in
           subst (IsPlacedCode parts image sizing f rest) here
           (items_placed 1 rest (omega (arith, size))

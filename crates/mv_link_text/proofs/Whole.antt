@@ -46,7 +46,8 @@ codes_ascend parts image are tables linked = record {
   variant = variant_there parts;
   attributed = attributed_within parts tables;
   places = λ f. linked.text_is.places (label_index (linked_lines parts) f);
-  ascend = λ f g code found begins lt below. entry_before parts are linked.sizing linked.text linked.least.fits.sizes linked.text_is f code found begins g (get_or (codes parts) g no_code) (slice_get-get_or (codes parts) g no_code below) lt;
+  ascend = λ f g code found begins lt below. entry_before parts are linked.sizing linked.text linked.least.fits.sizes linked.text_is f code found begins g
+      (get_or (codes parts) g no_code) (slice_get-get_or (codes parts) g no_code below) lt;
 }
 
 pub points_in_codes : PointsStandInCodes
@@ -62,7 +63,8 @@ check_is_told parts image are tables linked some =
     let test : nat_lt 0 (point_count (linked_lines parts)) ≡ true = lt-ltb 0 (point_count (linked_lines parts)) (omega (arith, some, count, points)) in
     ap (λ (i : Fields). i.check) linked.image_is ∙ ap (λ b. cond b (place check_label) 0) test
 
-target_entries : (entry : ℕ → ℕ) (n : ℕ) (names : List (List ℕ)) → map (λ (target : TargetRow). target.entry) (target_rows entry n names) ≡ map entry (range_with_len n (length names))
+-- the entries of targets are the addresses of the functions with their numbers
+pub target_entries : (entry : ℕ → ℕ) (n : ℕ) (names : List (List ℕ)) → map (λ (target : TargetRow). target.entry) (target_rows entry n names) ≡ map entry (range_with_len n (length names))
 target_entries entry n [] = refl
 target_entries entry n (name ∷ names) =
     let next : suc n ≡ n + 1 = omega arith in

@@ -283,7 +283,9 @@ lines_fit parts are =
     let m = length (codes parts) in
     let rest = function_parts 0 m (codes parts) in
     let fields : All LineFits (linked_lines parts) =
-    All-append LineFits (stub_lines parts.main (has_pointers parts)) rest (stubs_all LineFits parts.main (start_fields parts.main) trap_fields commit_fields check_fields (has_pointers parts)) (parts_fields n (has_pointers parts) (codes parts) 0 m are.functions) in
+    All-append LineFits (stub_lines parts.main (has_pointers parts)) rest
+    (stubs_all LineFits parts.main (start_fields parts.main) trap_fields commit_fields check_fields (has_pointers parts))
+    (parts_fields n (has_pointers parts) (codes parts) 0 m are.functions) in
     let whole = linked_lines parts in
     let entries : (f : ℕ) → f < n → StandsOnce whole f = λ f below. entry_once parts are f (within_codes parts f below) in
     let targets : All (TargetStands whole) whole =

@@ -57,9 +57,6 @@ code_count parts =
     let variants = length-map (function_variants parts.attributed) (λ (v : PartVariant). v.code) in
     omega (arith, all, variants)
 
-pub functions_few : (parts : Parts) → length parts.functions ≤ length (codes parts)
-functions_few parts = omega (arith, code_count parts)
-
 pub data_fit : (parts : Parts) → AreParts parts → (n : ℕ) → n ≡ length (codes parts) → All (IsDatum n) parts.globals
 data_fit parts are n is =
     subst (λ m. All (IsDatum m) parts.globals) (sym is)
@@ -91,9 +88,11 @@ image_linked groups parts are tables sites few joined is words addresses placed 
 -- The image of the lists that the linker makes, given what it has read of the parts and of where lines and codes stand.
 pub made_linked : GroupsAreRows → (parts : Parts) (are : AreParts parts) (tables : FitTables parts) → HasFewSites parts → WithinLimit parts →
     (joined : Joined) (is : IsJoined parts joined) (words addresses : List ℕ) (placed : ArePlaced text_start joined.code.items words addresses) →
-    (starts globals : List ℕ) (switches : List SwitchRow) (functions : List FunctionRow) (variants : List VariantRow) (guards : List GuardRow) (sites : List SiteRow) (pointers : List PointerRow) (points : List PointRow) (targets : List TargetRow) (check : ℕ) (names : List (List ℕ)) →
+    (starts globals : List ℕ) (switches : List SwitchRow) (functions : List FunctionRow) (variants : List VariantRow) (guards : List GuardRow)
+    (sites : List SiteRow) (pointers : List PointerRow) (points : List PointRow) (targets : List TargetRow) (check : ℕ) (names : List (List ℕ)) →
     (at entries from : List ℕ) (words_read : List Datum) (of_switches : List PartSwitch) (attributed : List PartFunction) (of_pointers : List PartPointer) (of_targets : List (List ℕ)) (lines : List Line) (count : ℕ) →
-    at ≡ addresses → entries ≡ joined.entries → from ≡ starts → words_read ≡ parts.globals → of_switches ≡ parts.switches → attributed ≡ parts.attributed → of_pointers ≡ parts.pointers → of_targets ≡ parts.targets → lines ≡ joined.code.items →
+    at ≡ addresses → entries ≡ joined.entries → from ≡ starts → words_read ≡ parts.globals → of_switches ≡ parts.switches → attributed ≡ parts.attributed
+    → of_pointers ≡ parts.pointers → of_targets ≡ parts.targets → lines ≡ joined.code.items →
     count ≡ length parts.functions →
     starts ≡ map (slice_index at) entries →
     globals ≡ map (datum_word (slice_index from)) words_read →
@@ -107,8 +106,38 @@ pub made_linked : GroupsAreRows → (parts : Parts) (are : AreParts parts) (tabl
     targets ≡ target_rows (slice_index from) 0 of_targets →
     check ≡ cond (nat_lt 0 (length points)) (slice_index at check_index) 0 →
     names ≡ map (λ (s : PartSwitch). s.name) parts.switches ++ map (λ (a : PartFunction). a.name) parts.attributed ++ map (λ (q : PartPointer). q.name) parts.pointers ++ parts.targets →
-    FitsFormat (record { version = 2; entry = text_start; text = words; globals = globals; switches = switches; functions = functions; variants = variants; guards = guards; sites = sites; pointers = pointers; points = points; targets = targets; check = check; names = names })
-    × IsLinked parts (record { version = 2; entry = text_start; text = words; globals = globals; switches = switches; functions = functions; variants = variants; guards = guards; sites = sites; pointers = pointers; points = points; targets = targets; check = check; names = names })
+    FitsFormat (record {
+      version = 2;
+      entry = text_start;
+      text = words;
+      globals = globals;
+      switches = switches;
+      functions = functions;
+      variants = variants;
+      guards = guards;
+      sites = sites;
+      pointers = pointers;
+      points = points;
+      targets = targets;
+      check = check;
+      names = names;
+    })
+    × IsLinked parts (record {
+      version = 2;
+      entry = text_start;
+      text = words;
+      globals = globals;
+      switches = switches;
+      functions = functions;
+      variants = variants;
+      guards = guards;
+      sites = sites;
+      pointers = pointers;
+      points = points;
+      targets = targets;
+      check = check;
+      names = names;
+    })
 made_linked groups parts are tables few_sites few_words joined is words addresses placed starts globals switches functions variants guards sites pointers points targets check names
     at entries from words_read of_switches attributed of_pointers of_targets lines count at_is entries_are from_is data_are of_switches_are attributed_are of_pointers_are of_targets_are lines_are count_is
     starts_made globals_made switches_made functions_made variants_made guards_made sites_made pointers_made points_made targets_made check_made names_made =
@@ -118,7 +147,27 @@ made_linked groups parts are tables few_sites few_words joined is words addresse
     let check_is : check ≡ cond (nat_lt 0 (point_count (linked_lines parts))) (slice_index addresses check_index) 0 =
     check_made ∙ ap (λ n. cond (nat_lt 0 n) (slice_index at check_index) 0) point_rows ∙ ap (λ xs. cond (nat_lt 0 (point_count (linked_lines parts))) (slice_index xs check_index) 0) at_is in
     image_linked groups parts are tables few_sites few_words joined is words addresses placed starts (rw (← at_is, ← entries_are) starts_made) check check_is _
-    (rw (globals_made, switches_made, functions_made, variants_made, guards_made, sites_made, pointers_made, points_made, targets_made, names_made, at_is, from_is, data_are, of_switches_are, attributed_are, of_pointers_are, of_targets_are, all_lines, count_is) refl)
+    (rw (
+      globals_made,
+      switches_made,
+      functions_made,
+      variants_made,
+      guards_made,
+      sites_made,
+      pointers_made,
+      points_made,
+      targets_made,
+      names_made,
+      at_is,
+      from_is,
+      data_are,
+      of_switches_are,
+      attributed_are,
+      of_pointers_are,
+      of_targets_are,
+      all_lines,
+      count_is,
+    ) refl)
 
 -- where there is a pointer site the stub of calls through pointer switches has an item
 pub check_there : (parts : Parts) (are : AreParts parts) (tables : FitTables parts) (joined : Joined) (is : IsJoined parts joined) (words addresses : List ℕ)

@@ -1,7 +1,7 @@
 -- A slot that stands in text is a site of the function whose entry it calls, and one of four words a pointer site.
-use Rattle.std.proofs.Common.{◌≡◌, ℕ, zero, suc, ◌+◌, ◌-◌, ◌*◌, ◌/◌, ◌%◌, ◌^◌, ◌<◌, ◌≤◌, List, [], ◌∷◌, length, slice_index, Some, false, ltb, pos, unsigned_abs, ◌+ℤ◌, refl, sym, ap, subst, ◌∙◌, arith, inl, inr}
+use Rattle.std.proofs.Common.{◌≡◌, ℕ, zero, suc, ◌+◌, ◌-◌, ◌*◌, ◌/◌, ◌%◌, ◌^◌, ◌<◌, ◌≤◌, List, [], ◌∷◌, length, slice_index, Some, false, ltb, pos, unsigned_abs, ◌+ℤ◌, refl, sym, ap, ◌∙◌, arith}
 use Rattle.std.specs.Prelude.{slice_index_or}
-use Rattle.std.proofs.lemmas.Bool.{le-ltb, cases_lt}
+use Rattle.std.proofs.lemmas.Bool.{le-ltb}
 use Rattle.std.proofs.lemmas.Int.{ints, int_rem_euclid_is}
 use Rattle.std.proofs.lemmas.Option.{get_or_from_slice_get}
 use Rattle.mv_isa.specs.declared.instr.Instr.TheVariants.{Lui, Lw, Jalr}
@@ -10,7 +10,7 @@ use Rattle.mv_isa.specs.Formats.{low_in, i_word, u_word}
 use Rattle.mv_isa.specs.Encoding.{encode}
 use Rattle.mv_isa.specs.Code.{IsPlace, IsSizing, nop, upper_part, lower_part, text_start, line_at, least_words, offset, address}
 use Rattle.mv_isa.specs.Standing.{SlotStands, PointStands, word_at}
-use Rattle.mv_asm.proofs.Offsets.{offset-nil}
+use Rattle.mv_asm.proofs.Offsets.{offset-nil, offset-mono}
 use Rattle.mv_descriptors.specs.declared.rows.FunctionRow.{FunctionRow}
 use Rattle.mv_descriptors.specs.declared.rows.SiteRow.{SiteRow}
 use Rattle.mv_descriptors.specs.declared.rows.PointerRow.{PointerRow}
@@ -90,20 +90,12 @@ offset_next [] k = omega (arith, offset-nil (suc k), offset-nil k)
 offset_next (x ∷ xs) zero = omega (arith, offset-cons x xs 0)
 offset_next (x ∷ xs) (suc k) = omega (arith, offset-cons x xs (suc k), offset-cons x xs k, offset_next xs k)
 
-offset_later : (sizing : List ℕ) (i j : ℕ) → i ≤ j → offset sizing i ≤ offset sizing j
-offset_later sizing i zero le = let e : 0 ≡ i = omega arith in subst (λ (k : ℕ). offset sizing k ≤ offset sizing 0) e (omega arith)
-offset_later sizing i (suc j) le =
-    elim (cases_lt j i) [
-      | inl last ↦ let e : suc j ≡ i = omega arith in subst (λ (k : ℕ). offset sizing k ≤ offset sizing (suc j)) e (omega arith)
-      | inr before ↦ omega (arith, offset_later sizing i j before, offset_next sizing j)
-    ]
-
 -- what stands behind a line stands as many words on as the line has, or more: sites ascend by 8, and pointer sites by 16
 pub behind_line : (base : ℕ) (lines : List Line) (sizing : List ℕ) (k n j : ℕ) → IsSizing lines sizing → k < length lines → n ≤ least_words (line_at lines k) → k < j → address base sizing k + 4 * n ≤ address base sizing j
 behind_line base lines sizing k n j sizes lt wide later =
-    omega (arith, wide, sizes.at_least k lt, offset_next sizing k, offset_later sizing (suc k) j (omega arith))
+    omega (arith, wide, sizes.at_least k lt, offset_next sizing k, offset-mono sizing (suc k) j (omega arith))
 
 -- what stands before a line that has words and isn't behind a slot stands before the slot: an entry whose function begins with a word is in no site
 pub before_slot : (base : ℕ) (lines : List Line) (sizing : List ℕ) (i j k : ℕ) → IsSizing lines sizing → i ≤ j → j < k → j < length lines → 1 ≤ least_words (line_at lines j) → address base sizing i < address base sizing k
 before_slot base lines sizing i j k sizes le lt there some =
-    omega (arith, some, sizes.at_least j there, offset_next sizing j, offset_later sizing i j le, offset_later sizing (suc j) k (omega arith))
+    omega (arith, some, sizes.at_least j there, offset_next sizing j, offset-mono sizing i j le, offset-mono sizing (suc j) k (omega arith))

@@ -75,11 +75,15 @@ marked_agree f h (x ∷ xs) n a =
 -- one global more
 pub rooms_next : (f : ℕ → Bool) (g before : ℕ) (xs : List Global) (i : ℕ) (x : Global) → i < length xs → x ≡ get_or xs i x →
     rooms_from f g before (drop i xs) ≡
-    cond (f g) (record { global = g; at = address_behind before; size = words_of_size x.size } ∷ rooms_from f (g + 1) (before + words_of_size x.size) (drop (i + 1) xs)) (rooms_from f (g + 1) (before + words_of_size x.size) (drop (i + 1) xs))
+    cond (f g) (record { global = g; at = address_behind before; size = words_of_size x.size } ∷
+    rooms_from f (g + 1) (before + words_of_size x.size) (drop (i + 1) xs))
+    (rooms_from f (g + 1) (before + words_of_size x.size) (drop (i + 1) xs))
 rooms_next f g before xs i x h e =
     let s : suc g ≡ g + 1 = omega arith in
     ap (λ ys. rooms_from f g before ys) (next_item xs i x h e) ∙
-    ap (λ k. cond (f g) (record { global = g; at = address_behind before; size = words_of_size x.size } ∷ rooms_from f k (before + words_of_size x.size) (drop (i + 1) xs)) (rooms_from f k (before + words_of_size x.size) (drop (i + 1) xs))) s
+    ap (λ k. cond (f g) (record { global = g; at = address_behind before; size = words_of_size x.size } ∷
+    rooms_from f k (before + words_of_size x.size) (drop (i + 1) xs))
+    (rooms_from f k (before + words_of_size x.size) (drop (i + 1) xs))) s
 
 pub rooms_end : (f : ℕ → Bool) (g before : ℕ) (xs : List Global) (i : ℕ) → length xs ≤ i → rooms_from f g before (drop i xs) ≡ []
 rooms_end f g before xs i h = ap (λ ys. rooms_from f g before ys) (drop_all i xs h)

@@ -40,6 +40,7 @@ pub fn lower_stmts(
     Ok(Code { code, top })
 }
 
+// What a statement is lowered to: an arm for each form.
 #[cycle(statement)]
 #[tactic(auto, using(crate::proofs::StatementForms::forms))]
 fn lower_stmt(

@@ -30,11 +30,13 @@ module _ (turned : Bool) (op : ℕ) (t : CType) (a b : Lowered) (n : ℕ) (o : O
   quotient : (d : ℕ) → lower_division turned d (given a) (given b) n ≡ divided d o n
   unfolding first_of second_of
   quotient d =
-      same_lowered
-      (sym (append_assoc (first_of a b n).code (second_of b n).code (divide n d (cond turned (second_of b n).tree (first_of a b n).tree) (cond turned (first_of a b n).tree (second_of b n).tree) ∷ [])) ∙ ap (λ c. c ++ divide n d (cond turned (second_of b n).tree (first_of a b n).tree) (cond turned (first_of a b n).tree (second_of b n).tree) ∷ []) (sym h.code) ∙
+      same_lowered (sym (append_assoc (first_of a b n).code (second_of b n).code
+      (divide n d (cond turned (second_of b n).tree (first_of a b n).tree) (cond turned (first_of a b n).tree (second_of b n).tree) ∷ []))
+      ∙ ap (λ c. c ++
+      divide n d (cond turned (second_of b n).tree (first_of a b n).tree) (cond turned (first_of a b n).tree (second_of b n).tree) ∷ [])
+      (sym h.code) ∙
       ap (λ l. o.code ++ divide n d l (cond turned (first_of a b n).tree (second_of b n).tree) ∷ []) (sym h.left) ∙
-      ap (λ r. o.code ++ divide n d o.left r ∷ []) (sym h.right))
-      refl
+      ap (λ r. o.code ++ divide n d o.left r ∷ []) (sym h.right)) refl
       (ap (λ m. max (n + 1) m) (sym h.top))
 
   abbrev L : (Tree → Tree → Tree) → Lowering

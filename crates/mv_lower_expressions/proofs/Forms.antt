@@ -182,8 +182,10 @@ module _ (turned : Bool) (op : ℕ) (t : CType) (a b : Lowering) (n : ℕ) where
 
   abbrev tested : Lowering → Lowering → Bool → Bool → Bool → Bool → Bool → Lowering
   tested x y small p q r s =
-      cond small
-      (cond p (lower_operator turned (binary 0) x y) (cond q (lower_operator turned (binary 1) x y) (cond r (lower_operator turned (binary 2) x y) (cond s (lower_division turned (quotient_number t) x y) (lower_division turned (remainder_number t) x y)))))
+      cond small (cond p (lower_operator turned (binary 0) x y)
+      (cond q (lower_operator turned (binary 1) x y)
+      (cond r (lower_operator turned (binary 2) x y)
+      (cond s (lower_division turned (quotient_number t) x y) (lower_division turned (remainder_number t) x y)))))
       (lower_operator turned (bit_tree op t) x y)
 
   by_tests : (small p q r s : Bool) → tested a b small p q r s n ≡ tested A B small p q r s n
@@ -426,7 +428,23 @@ switched_through ps args f = switched ps _ _ (outs-Through args f)
 pub switched_known : (ps : List ℕ) (k : Known) (args : List Expr) → switch_of_form ps (at.Known k args) ≡ None
 switched_known ps k args = switched ps _ _ (outs-Known k args)
 
-pub ruleset switched_forms = (switched_number, switched_read, switched_function, switched_unary, switched_binary, switched_both, switched_either, switched_choose, switched_convert, switched_set, switched_change, switched_after, switched_direct, switched_through, switched_known)
+pub ruleset switched_forms = (
+  switched_number,
+  switched_read,
+  switched_function,
+  switched_unary,
+  switched_binary,
+  switched_both,
+  switched_either,
+  switched_choose,
+  switched_convert,
+  switched_set,
+  switched_change,
+  switched_after,
+  switched_direct,
+  switched_through,
+  switched_known,
+)
 
 pub switched_global : (ps : List ℕ) (g : ℕ) → switch_of_target ps (target.Global g) ≡ (if is_among g ps then Some g else None)
 unfolding switch_of_target

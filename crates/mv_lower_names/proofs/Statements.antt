@@ -122,7 +122,9 @@ module _ (F : ℕ → Type 0) (K : Known → Type 0) (C : ℕ → Type 0) (zero_
     switch_fine e arms h c k j =
         let count = suc (length arms) in
         let other = arm_place (λ (a : LoweredArm). a.other) 0 arms in
-        let tests : X (all_tests locals arms) = then F K C (test_arms locals 0 arms) (set locals (number other)) (tests_fine locals 0 count arms c (omega arith) k) (place_set locals other (place_fine (λ (a : LoweredArm). a.other) 0 count arms c (omega arith))) in
+        let tests : X (all_tests locals arms) =
+        then F K C (test_arms locals 0 arms) (set locals (number other)) (tests_fine locals 0 count arms c (omega arith) k)
+        (place_set locals other (place_fine (λ (a : LoweredArm). a.other) 0 count arms c (omega arith))) in
         let all : X (enclosed (all_tests locals arms) ∷ arms_code locals 0 arms j) = (enclosed_names F K C (all_tests locals arms) tests, arms_fine locals 0 count arms j c (omega arith) k) in
         join (e locals).code _ (h locals).0 (set_names F K C locals (e locals).tree (h locals).1, (enclosed_names F K C (enclosed (all_tests locals arms) ∷ arms_code locals 0 arms j) all, tt))
 
@@ -150,7 +152,8 @@ module _ (F : ℕ → Type 0) (K : Known → Type 0) (C : ℕ → Type 0) (zero_
 
     -- ---- the fold
 
-    module _ (pointers : List ℕ) (sizes : ℕ → Option ℕ) (void : Bool) (PF : Form → Type 0) (PT : Target → Type 0) (PE : Expr → Type 0) (PS : Stmt → Type 0) (PA : Arm → Type 0) (source : KnownOf F K C PF PT PE) (known : StmtsKnown F K C sizes PE PS PA) where
+    module _ (pointers : List ℕ) (sizes : ℕ → Option ℕ) (void : Bool) (PF : Form → Type 0) (PT : Target → Type 0) (PE : Expr → Type 0)
+        (PS : Stmt → Type 0) (PA : Arm → Type 0) (source : KnownOf F K C PF PT PE) (known : StmtsKnown F K C sizes PE PS PA) where
       open sequences pointers locals sizes void use {lowered, arms_lowered}
 
       value_fine : (e : Expr) → PE e → FL (lower_expr pointers e)
@@ -187,7 +190,8 @@ module _ (F : ℕ → Type 0) (K : Known → Type 0) (C : ℕ → Type 0) (zero_
       layer (stmt.While e body) h k j = while_fine (lower_expr pointers e) (lowered body) (value_fine e k.0) (sequence_fine body h k.1) j
       layer (stmt.Do body e) h k j = do_fine (lowered body) (lower_expr pointers e) (sequence_fine body h k.1) (value_fine e k.0) j
       layer (stmt.For first test step body) h k j =
-          for_fine (lowered first) (lower_optional pointers 1 test) (lower_optional pointers 0 step) (lowered body) (sequence_fine first h.0 k.0.0) (optional_fine 1 test one_is k.1) (optional_fine 0 step zero_is k.2) (sequence_fine body h.1 k.0.1) j
+          for_fine (lowered first) (lower_optional pointers 1 test) (lower_optional pointers 0 step) (lowered body) (sequence_fine first h.0 k.0.0)
+          (optional_fine 1 test one_is k.1) (optional_fine 0 step zero_is k.2) (sequence_fine body h.1 k.0.1) j
       layer (stmt.Switch e arms) h k j =
           switch_fine (lower_expr pointers e) (arms_lowered arms) (value_fine e k.0) (λ i lt. k.1 i (omega (arith, lt, length-map arms (lower_arm pointers locals sizes void)))) (all_arms_fine arms h k.2) j
       layer stmt.Break h k j = (break_names F K C j.leave, tt)

@@ -65,7 +65,8 @@ module _ (ground : Ground) (void : Bool)
   value : (k : ℕ) → k ≤ limit → (e : Expr) → named ground.p ground.own ground.locals ground.sizes void e ≡ true → CorrectFor (resting ground) (at k) 0 (value_of ground.p (context k) e) (lower_expr ground.p.pointers e)
   value k up e b = value_at none (λ l. true) (λ l q. refl) k up e b
 
-  optional : (k : ℕ) → k ≤ limit → (v : ℕ) (e : Option Expr) → named_option ground.p ground.own ground.locals ground.sizes void e ≡ true → CorrectFor (resting ground) (at k) 14 (optional_value ground.p (context k) v e) (lower_optional ground.p.pointers v e)
+  optional : (k : ℕ) → k ≤ limit → (v : ℕ) (e : Option Expr) → named_option ground.p ground.own ground.locals ground.sizes void e ≡ true →
+      CorrectFor (resting ground) (at k) 14 (optional_value ground.p (context k) v e) (lower_optional ground.p.pointers v e)
   optional k up v None b = forms.correct_number (resting ground) (at k) v
   optional k up v (Some e) b = show.with_more (resting ground) (at k) 0 14 (value_of ground.p (context k) e) (lower_expr ground.p.pointers e) (omega arith) (value k up e b)
 
@@ -114,7 +115,8 @@ module _ (ground : Ground) (void : Bool)
   once : (j : Jumps) (k : ℕ) (m : Evaluation Flow) (xs : List Stm) → Counts j k m xs → CorrectAt j k m xs
   once j k m xs h = subst (λ (d : Evaluation Flow). CorrectAt j k d xs) (sym h.counts) (flows.counted_once ground void (out_of void j) (at k) h.rest xs h.right)
 
-  all_correct : (body : List Stmt) → Each S body → formed body ≡ true → labelled body ≡ true → (j : Jumps) → (lowered body j).top ≤ ground.room → (k : ℕ) → k ≤ limit → CorrectAt j k (flow_of_all ground.p (context k) body) (lowered body j).code
+  all_correct : (body : List Stmt) → Each S body → formed body ≡ true → labelled body ≡ true → (j : Jumps) → (lowered body j).top ≤ ground.room →
+      (k : ℕ) → k ≤ limit → CorrectAt j k (flow_of_all ground.p (context k) body) (lowered body j).code
   all_correct [] h b l j le k up = flows.nothing_to_do ground void j (at k)
   all_correct (s ∷ body) h b l j le k up =
       let bs = and_cases (stmt_is_well_formed ground.p ground.own ground.locals ground.sizes void s) (formed body) b in
@@ -200,9 +202,14 @@ module _ (ground : Ground) (void : Bool)
   as_bare [] = refl
   as_bare (a ∷ arms) =
       let others = switches.bare_arms (map (lower_arm ground.p.pointers ground.locals ground.sizes void) arms) in
-      ap (λ (l : LoweredArm). bare_of l.labels + others) (fold_out-Arm Placed LoweredArm (lower_stmt_layer ground.p.pointers ground.locals ground.sizes void) (lower_arm_layer ground.p.pointers ground.locals ground.sizes void) a) ∙ ap (λ n. bare a + n) (as_bare arms)
+      ap (λ (l : LoweredArm). bare_of l.labels + others)
+      (fold_out-Arm Placed LoweredArm (lower_stmt_layer ground.p.pointers ground.locals ground.sizes void)
+      (lower_arm_layer ground.p.pointers ground.locals ground.sizes void) a) ∙
+      ap (λ n. bare a + n) (as_bare arms)
 
-  layer : (x : Stmt-F Stmt Arm) → StmtChildren S A x → stmt_named_layer ground.p ground.own ground.locals ground.sizes void (tests x) ≡ true → labels_layer (labels x) ≡ true → (j : Jumps) → (lower_stmt_layer ground.p.pointers ground.locals ground.sizes void (blocks x) j).top ≤ ground.room → (k : ℕ) → k ≤ limit →
+  layer : (x : Stmt-F Stmt Arm) → StmtChildren S A x → stmt_named_layer ground.p ground.own ground.locals ground.sizes void (tests x) ≡ true →
+      labels_layer (labels x) ≡ true → (j : Jumps) →
+      (lower_stmt_layer ground.p.pointers ground.locals ground.sizes void (blocks x) j).top ≤ ground.room → (k : ℕ) → k ≤ limit →
       Counts j k (flow_of ground.p (context k) (roll-Stmt x)) (lower_stmt_layer ground.p.pointers ground.locals ground.sizes void (blocks x) j).code
   layer (stmt.Block body) h b l j le k up =
       let x : Stmt-F Stmt Arm = stmt.Block body in
@@ -216,10 +223,14 @@ module _ (ground : Ground) (void : Bool)
       let b0 = and_cases (nat_lt l ground.locals) (nat_le (length values) (words_of_size (ground.sizes l)) && (all && (itself || others))) b in
       let b1 = and_cases (nat_le (length values) (words_of_size (ground.sizes l))) (all && (itself || others)) b0.1 in
       let b2 = and_cases all (itself || others) b1.1 in
-      counts j k (roll-Stmt x) (clear_local l itself (map (value_of ground.p (context k)) values)) (lower_stmt_layer ground.p.pointers ground.locals ground.sizes void (blocks x) j).code (flow_of-Clear ground.p (context k) (roll-Stmt x) l values (out-roll-Stmt x))
-      (clears.clear_correct ground void j (at k) l itself (map (value_of ground.p (context k)) values) (map (lower_expr ground.p.pointers) values) (ltb-true l ground.locals b0.0) fits
+      counts j k (roll-Stmt x) (clear_local l itself (map (value_of ground.p (context k)) values))
+      (lower_stmt_layer ground.p.pointers ground.locals ground.sizes void (blocks x) j).code
+      (flow_of-Clear ground.p (context k) (roll-Stmt x) l values (out-roll-Stmt x))
+      (clears.clear_correct ground void j (at k) l itself (map (value_of ground.p (context k)) values) (map (lower_expr ground.p.pointers) values)
+      (ltb-true l ground.locals b0.0) fits
       (length-map values (value_of ground.p (context k)) ∙ sym (length-map values (lower_expr ground.p.pointers)))
-      (subst (λ n. n ≤ words_of_size (ground.sizes l)) (sym (length-map values (lower_expr ground.p.pointers))) (leb-true (length values) (words_of_size (ground.sizes l)) b1.0)) le
+      (subst (λ n. n ≤ words_of_size (ground.sizes l)) (sym (length-map values (lower_expr ground.p.pointers)))
+      (leb-true (length values) (words_of_size (ground.sizes l)) b1.0)) le
       (values_at none (λ l. true) (λ l q. refl) k up values b2.0)
       (λ e both. values_at (only l both) (but_for l) (but_for_free l both) k up values (left_over itself others b2.1 e)))
     where
@@ -228,17 +239,27 @@ module _ (ground : Ground) (void : Bool)
       left_over false c e q = e
   layer (stmt.Express e) h b l j le k up =
       let x : Stmt-F Stmt Arm = stmt.Express e in
-      counts j k (roll-Stmt x) (bind (value_of ground.p (context k) e) (λ v. give Goes)) (lower_stmt_layer ground.p.pointers ground.locals ground.sizes void (blocks x) j).code (flow_of-Express ground.p (context k) (roll-Stmt x) e (out-roll-Stmt x))
-      (flows.effect ground void (out_of void j) Goes (at k) 72 0 (value_of ground.p (context k) e) (lower_expr ground.p.pointers e) (λ s. refl) (λ q. refl) (omega arith) le (value k up e b))
+      counts j k (roll-Stmt x) (bind (value_of ground.p (context k) e) (λ v. give Goes))
+      (lower_stmt_layer ground.p.pointers ground.locals ground.sizes void (blocks x) j).code
+      (flow_of-Express ground.p (context k) (roll-Stmt x) e (out-roll-Stmt x))
+      (flows.effect ground void (out_of void j) Goes (at k) 72 0 (value_of ground.p (context k) e) (lower_expr ground.p.pointers e) (λ s. refl)
+      (λ q. refl) (omega arith) le (value k up e b))
   layer (stmt.If e yes_part no_part) h b l j le k up =
       let x : Stmt-F Stmt Arm = stmt.If e yes_part no_part in
       let bs = and_cases (named ground.p ground.own ground.locals ground.sizes void e) (formed yes_part && formed no_part) b in
       let cs = and_cases (formed yes_part) (formed no_part) bs.1 in
       let ls = and_cases (labelled yes_part) (labelled no_part) l in
-      counts j k (roll-Stmt x) (bind (value_of ground.p (context k) e) (λ v. unless_zero v (flow_of_all ground.p (context k) no_part) (flow_of_all ground.p (context k) yes_part))) (lower_stmt_layer ground.p.pointers ground.locals ground.sizes void (blocks x) j).code (flow_of-If ground.p (context k) (roll-Stmt x) e yes_part no_part (out-roll-Stmt x))
-      (raise j (0 + 0) 72 (at k) (bind (value_of ground.p (context k) e) (λ v. unless_zero v (flow_of_all ground.p (context k) no_part) (flow_of_all ground.p (context k) yes_part))) (lower_stmt_layer ground.p.pointers ground.locals ground.sizes void (blocks x) j).code (omega arith)
-      (flows.tested ground void (out_of void j) (at k) 0 0 (value_of ground.p (context k) e) (flow_of_all ground.p (context k) yes_part) (flow_of_all ground.p (context k) no_part) (lower_expr ground.p.pointers e) (lowered yes_part j).code (lowered no_part j).code (omega (arith, le)) (value k up e bs.0)
-      (all_correct yes_part h.0 cs.0 ls.0 j (omega (arith, le)) k up) (all_correct no_part h.1 cs.1 ls.1 j (omega (arith, le)) k up)))
+      counts j k (roll-Stmt x) (bind (value_of ground.p (context k) e)
+      (λ v. unless_zero v (flow_of_all ground.p (context k) no_part) (flow_of_all ground.p (context k) yes_part)))
+      (lower_stmt_layer ground.p.pointers ground.locals ground.sizes void (blocks x) j).code
+      (flow_of-If ground.p (context k) (roll-Stmt x) e yes_part no_part (out-roll-Stmt x))
+      (raise j (0 + 0) 72 (at k) (bind (value_of ground.p (context k) e)
+      (λ v. unless_zero v (flow_of_all ground.p (context k) no_part) (flow_of_all ground.p (context k) yes_part)))
+      (lower_stmt_layer ground.p.pointers ground.locals ground.sizes void (blocks x) j).code (omega arith)
+      (flows.tested ground void (out_of void j) (at k) 0 0 (value_of ground.p (context k) e) (flow_of_all ground.p (context k) yes_part)
+      (flow_of_all ground.p (context k) no_part) (lower_expr ground.p.pointers e) (lowered yes_part j).code (lowered no_part j).code
+      (omega (arith, le)) (value k up e bs.0) (all_correct yes_part h.0 cs.0 ls.0 j (omega (arith, le)) k up)
+      (all_correct no_part h.1 cs.1 ls.1 j (omega (arith, le)) k up)))
   layer (stmt.While e body) h b l j le k up =
       let x : Stmt-F Stmt Arm = stmt.While e body in
       let bs = and_cases (named ground.p ground.own ground.locals ground.sizes void e) (formed body) b in
@@ -246,10 +267,12 @@ module _ (ground : Ground) (void : Bool)
       let mb : ℕ → Evaluation Flow = λ i. flow_of_all ground.p (context i) body in
       let turn = test_and_body ground.locals (lower_expr ground.p.pointers e) (enclosed (lowered body (in_body j)).code ∷ []) in
       let rest : ℕ → Evaluation Flow = λ i. bind (me i) (λ v. unless_zero v (give Goes) (bind (mb i) (λ flow. after_body flow (loop_of i (roll-Stmt x))))) in
-      counts j k (roll-Stmt x) (rest k) (lower_stmt_layer ground.p.pointers ground.locals ground.sizes void (blocks x) j).code (flow_of-While ground.p (context k) (roll-Stmt x) e body (out-roll-Stmt x))
+      counts j k (roll-Stmt x) (rest k) (lower_stmt_layer ground.p.pointers ground.locals ground.sizes void (blocks x) j).code
+      (flow_of-While ground.p (context k) (roll-Stmt x) e body (out-roll-Stmt x))
       (looped j (roll-Stmt x) turn (λ i. while_turn (me i) (mb i)) rest
-      (λ i lim f w s sh. flows.more ground void (turn_out void j) (8 + 0) 64 (code ground turn (at i) s) (while_turn (me i) (mb i) f w) (omega arith)
-      (loops.while_correct ground void j (at i) 0 (me i) (mb i) (lower_expr ground.p.pointers e) (lowered body (in_body j)).code (omega (arith, le)) (value i lim e bs.0) (all_correct body h bs.1 l (in_body j) (omega (arith, le)) i lim) f w s sh))
+      (λ i lim f w s sh. flows.more ground void (turn_out void j) (8 + 0) 64 (code ground turn (at i) s) (while_turn (me i) (mb i) f w)
+      (omega arith) (loops.while_correct ground void j (at i) 0 (me i) (mb i) (lower_expr ground.p.pointers e) (lowered body (in_body j)).code
+      (omega (arith, le)) (value i lim e bs.0) (all_correct body h bs.1 l (in_body j) (omega (arith, le)) i lim) f w s sh))
       (λ i f w. sym (while_same (me i) (mb i) (loop_of i (roll-Stmt x)) f w))
       (λ i f w. ap (λ (m : Evaluation Flow). m f w) (flow_of-While ground.p (context i) (roll-Stmt x) e body (out-roll-Stmt x))) k up)
   layer (stmt.Do body e) h b l j le k up =
@@ -275,13 +298,22 @@ module _ (ground : Ground) (void : Bool)
       let ms : ℕ → Evaluation ℕ = λ i. optional_value ground.p (context i) 0 step in
       let mb : ℕ → Evaluation Flow = λ i. flow_of_all ground.p (context i) body in
       let rest : ℕ → Evaluation Flow = λ i. bind (me i) (λ v. unless_zero v (give Goes) (bind (mb i) (λ flow. after_body flow (bind (ms i) (λ _. loop_of i (roll-Stmt again)))))) in
-      counts j k (roll-Stmt x) (bind (flow_of_all ground.p (context k) first) (λ begun. then_on begun (rest k))) (lower_stmt_layer ground.p.pointers ground.locals ground.sizes void (blocks x) j).code (flow_of-For ground.p (context k) (roll-Stmt x) first test step body (out-roll-Stmt x))
-      (raise j (72 + 0) 72 (at k) (bind (flow_of_all ground.p (context k) first) (λ begun. then_on begun (rest k))) (lower_stmt_layer ground.p.pointers ground.locals ground.sizes void (blocks x) j).code (omega arith)
-      (flows.in_turn ground void j (at k) 0 72 (flow_of_all ground.p (context k) first) (rest k) (lowered first j).code (repeat turn ∷ []) (all_correct first h.0 b0.0 ls.0 j (omega (arith, le)) k up)
+      counts j k (roll-Stmt x) (bind (flow_of_all ground.p (context k) first) (λ begun. then_on begun (rest k)))
+      (lower_stmt_layer ground.p.pointers ground.locals ground.sizes void (blocks x) j).code
+      (flow_of-For ground.p (context k) (roll-Stmt x) first test step body (out-roll-Stmt x))
+      (raise j (72 + 0) 72 (at k) (bind (flow_of_all ground.p (context k) first) (λ begun. then_on begun (rest k)))
+      (lower_stmt_layer ground.p.pointers ground.locals ground.sizes void (blocks x) j).code (omega arith)
+      (flows.in_turn ground void j (at k) 0 72 (flow_of_all ground.p (context k) first) (rest k) (lowered first j).code (repeat turn ∷ [])
+      (all_correct first h.0 b0.0 ls.0 j (omega (arith, le)) k up)
       (looped j (roll-Stmt again) turn (λ i. for_turn (me i) (mb i) (ms i)) rest
-      (λ i lim. loops.for_correct ground void j (at i) (me i) (ms i) (mb i) (lower_optional ground.p.pointers 1 test) (lower_optional ground.p.pointers 0 step) (lowered body (in_body j)).code (omega (arith, le)) (omega (arith, le)) (optional i lim 1 test b1.0) (optional i lim 0 step b2.0) (all_correct body h.1 b2.1 ls.1 (in_body j) (omega (arith, le)) i lim))
+      (λ i lim. loops.for_correct ground void j (at i) (me i) (ms i) (mb i) (lower_optional ground.p.pointers 1 test)
+      (lower_optional ground.p.pointers 0 step) (lowered body (in_body j)).code (omega (arith, le)) (omega (arith, le))
+      (optional i lim 1 test b1.0) (optional i lim 0 step b2.0)
+      (all_correct body h.1 b2.1 ls.1 (in_body j) (omega (arith, le)) i lim))
       (λ i f w. sym (for_same (me i) (mb i) (ms i) (loop_of i (roll-Stmt again)) f w))
-      (λ i f w. ap (λ (m : Evaluation Flow). m f w) (flow_of-For ground.p (context i) (roll-Stmt again) [] test step body (out-roll-Stmt again)) ∙ counted_given (rest i) f w) k up)))
+      (λ i f w. ap (λ (m : Evaluation Flow). m f w)
+      (flow_of-For ground.p (context i) (roll-Stmt again) [] test step body (out-roll-Stmt again)) ∙
+      counted_given (rest i) f w) k up)))
     where
       counted_given : (m : Evaluation Flow) (f : Frame) (w : World) → counted 1 (bind (give Goes) (λ begun. then_on begun m)) f w ≡ counted 1 m f w
       counted_given m f w = ap (after 1) (given Goes (λ begun. then_on begun m) f w)
@@ -289,30 +321,48 @@ module _ (ground : Ground) (void : Bool)
       let x : Stmt-F Stmt Arm = stmt.Switch e arms in
       let bs = and_cases (named ground.p ground.own ground.locals ground.sizes void e) (all_of (map (arm_is_well_formed ground.p ground.own ground.locals ground.sizes void) arms)) b in
       let ls = labelled_switch arms l in
-      counts j k (roll-Stmt x) (bind (value_of ground.p (context k) e) (λ v. switch_flow v (map (arm_of ground.p (context k)) arms))) (lower_stmt_layer ground.p.pointers ground.locals ground.sizes void (blocks x) j).code (flow_of-Switch ground.p (context k) (roll-Stmt x) e arms (out-roll-Stmt x))
-      (switches.switch_correct ground void j (at k) (value_of ground.p (context k) e) (lower_expr ground.p.pointers e) (map (arm_of ground.p (context k)) arms) (map (lower_arm ground.p.pointers ground.locals ground.sizes void) arms) (omega (arith, le)) (omega (arith, le)) (omega (arith, as_bare arms, ls.few))
-      (value k up e bs.0) (arms_correct arms h bs.1 ls.inside j (omega (arith, le)) k up))
+      counts j k (roll-Stmt x) (bind (value_of ground.p (context k) e) (λ v. switch_flow v (map (arm_of ground.p (context k)) arms)))
+      (lower_stmt_layer ground.p.pointers ground.locals ground.sizes void (blocks x) j).code
+      (flow_of-Switch ground.p (context k) (roll-Stmt x) e arms (out-roll-Stmt x))
+      (switches.switch_correct ground void j (at k) (value_of ground.p (context k) e) (lower_expr ground.p.pointers e)
+      (map (arm_of ground.p (context k)) arms) (map (lower_arm ground.p.pointers ground.locals ground.sizes void) arms) (omega (arith, le))
+      (omega (arith, le)) (omega (arith, as_bare arms, ls.few)) (value k up e bs.0)
+      (arms_correct arms h bs.1 ls.inside j (omega (arith, le)) k up))
   layer stmt.Break h b l j le k up =
       let x : Stmt-F Stmt Arm = stmt.Break in
-      counts j k (roll-Stmt x) (give Breaks) (lower_stmt_layer ground.p.pointers ground.locals ground.sizes void (blocks x) j).code (flow_of-Break ground.p (context k) (roll-Stmt x) (out-roll-Stmt x)) (flows.leaves ground void j (at k) j.leave Breaks (λ s. refl) refl)
+      counts j k (roll-Stmt x) (give Breaks) (lower_stmt_layer ground.p.pointers ground.locals ground.sizes void (blocks x) j).code
+      (flow_of-Break ground.p (context k) (roll-Stmt x) (out-roll-Stmt x)) (flows.leaves ground void j (at k) j.leave Breaks (λ s. refl) refl)
   layer stmt.Continue h b l j le k up =
       let x : Stmt-F Stmt Arm = stmt.Continue in
-      counts j k (roll-Stmt x) (give Continues) (lower_stmt_layer ground.p.pointers ground.locals ground.sizes void (blocks x) j).code (flow_of-Continue ground.p (context k) (roll-Stmt x) (out-roll-Stmt x)) (flows.leaves ground void j (at k) j.again Continues (λ s. refl) refl)
+      counts j k (roll-Stmt x) (give Continues) (lower_stmt_layer ground.p.pointers ground.locals ground.sizes void (blocks x) j).code
+      (flow_of-Continue ground.p (context k) (roll-Stmt x) (out-roll-Stmt x)) (flows.leaves ground void j (at k) j.again Continues (λ s. refl) refl)
   layer (stmt.Return None) h b l j le k up =
       let x : Stmt-F Stmt Arm = stmt.Return None in
-      counts j k (roll-Stmt x) (bind (give 0) (λ v. give (Returns v))) (lower_stmt_layer ground.p.pointers ground.locals ground.sizes void (blocks x) j).code (flow_of-Return ground.p (context k) (roll-Stmt x) None (out-roll-Stmt x))
-      (flows.comes_to ground void (out_of void j) 72 (at k) (give (Returns 0)) (bind (give 0) (λ v. give (Returns v))) (lower_stmt_layer ground.p.pointers ground.locals ground.sizes void (blocks x) j).code (λ f w. sym (given 0 (λ v. give (Returns v)) f w))
-      (flows.leaves ground void j (at k) j.around (Returns 0) (λ s. ap (λ z. cond z (Leaves j.around s) (Ends (Returned (Some 0) s.world))) b) refl))
+      counts j k (roll-Stmt x) (bind (give 0) (λ v. give (Returns v)))
+      (lower_stmt_layer ground.p.pointers ground.locals ground.sizes void (blocks x) j).code
+      (flow_of-Return ground.p (context k) (roll-Stmt x) None (out-roll-Stmt x))
+      (flows.comes_to ground void (out_of void j) 72 (at k) (give (Returns 0)) (bind (give 0) (λ v. give (Returns v)))
+      (lower_stmt_layer ground.p.pointers ground.locals ground.sizes void (blocks x) j).code (λ f w. sym (given 0 (λ v. give (Returns v)) f w))
+      (flows.leaves ground void j (at k) j.around (Returns 0) (λ s. ap (λ z. cond z (Leaves j.around s) (Ends (Returned (Some 0) s.world))) b)
+      refl))
   layer (stmt.Return (Some e)) h b l j le k up =
       let x : Stmt-F Stmt Arm = stmt.Return (Some e) in
       let bs = and_cases (not void) (named ground.p ground.own ground.locals ground.sizes void e) b in
-      counts j k (roll-Stmt x) (bind (value_of ground.p (context k) e) (λ v. give (Returns v))) (lower_stmt_layer ground.p.pointers ground.locals ground.sizes void (blocks x) j).code (flow_of-Return ground.p (context k) (roll-Stmt x) (Some e) (out-roll-Stmt x))
-      (flows.returns ground void j (at k) (value_of ground.p (context k) e) (lower_expr ground.p.pointers e) (not-true void bs.0) le (value k up e bs.1))
+      counts j k (roll-Stmt x) (bind (value_of ground.p (context k) e) (λ v. give (Returns v)))
+      (lower_stmt_layer ground.p.pointers ground.locals ground.sizes void (blocks x) j).code
+      (flow_of-Return ground.p (context k) (roll-Stmt x) (Some e) (out-roll-Stmt x))
+      (flows.returns ground void j (at k) (value_of ground.p (context k) e) (lower_expr ground.p.pointers e) (not-true void bs.0) le
+      (value k up e bs.1))
 
   stmt_step : (x : Stmt-F Stmt Arm) → StmtChildren S A x → S (roll-Stmt x)
   stmt_step x h b l j =
-      subst (λ (l : Placed). (l j).top ≤ ground.room → (k : ℕ) → k ≤ limit → Counts j k (flow_of ground.p (context k) (roll-Stmt x)) (l j).code) (sym (fold-roll-Stmt Placed LoweredArm (lower_stmt_layer ground.p.pointers ground.locals ground.sizes void) (lower_arm_layer ground.p.pointers ground.locals ground.sizes void) x))
-      (layer x h (sym (fold-roll-Stmt Bool Bool (stmt_named_layer ground.p ground.own ground.locals ground.sizes void) (arm_named_layer ground.p ground.own ground.locals ground.sizes void) x) ∙ b) (sym (fold-roll-Stmt Bool ArmLabels labels_layer arm_labels_layer x) ∙ l) j)
+      subst (λ (l : Placed). (l j).top ≤ ground.room → (k : ℕ) → k ≤ limit → Counts j k (flow_of ground.p (context k) (roll-Stmt x)) (l j).code)
+      (sym (fold-roll-Stmt Placed LoweredArm (lower_stmt_layer ground.p.pointers ground.locals ground.sizes void)
+      (lower_arm_layer ground.p.pointers ground.locals ground.sizes void) x))
+      (layer x h (sym (fold-roll-Stmt Bool Bool (stmt_named_layer ground.p ground.own ground.locals ground.sizes void)
+      (arm_named_layer ground.p ground.own ground.locals ground.sizes void) x) ∙
+      b)
+      (sym (fold-roll-Stmt Bool ArmLabels labels_layer arm_labels_layer x) ∙ l) j)
 
   arm_step : (x : Arm-F Stmt Arm) → Each S x.body → A (roll-Arm x)
   arm_step x h =
@@ -322,9 +372,13 @@ module _ (ground : Ground) (void : Bool)
       (record {
         labels = λ k. sym (ap (λ (d : ArmDenotation). d.labels) (arm_of_lem ground.p (context k) a));
         other = λ k. sym (ap (λ (d : ArmDenotation). d.other) (arm_of_lem ground.p (context k) a));
-        body = λ b l j le k up.
-            subst (λ (ms : List (Evaluation Flow)). switches.Pays ground void (at k) j (in_order ms) (lowered x.body (in_arm j)).code) (sym (ap (λ (d : ArmDenotation). d.body) (arm_of_lem ground.p (context k) a)))
-            (all_pay x.body h (sym (fold-roll-Arm Bool Bool (stmt_named_layer ground.p ground.own ground.locals ground.sizes void) (arm_named_layer ground.p ground.own ground.locals ground.sizes void) x) ∙ b) (sym (ap (λ (z : ArmLabels). z.holds) labels_as) ∙ l) j le k up);
+        body = λ b l j le k up. subst
+            (λ (ms : List (Evaluation Flow)). switches.Pays ground void (at k) j (in_order ms) (lowered x.body (in_arm j)).code)
+            (sym (ap (λ (d : ArmDenotation). d.body) (arm_of_lem ground.p (context k) a)))
+            (all_pay x.body h (sym (fold-roll-Arm Bool Bool (stmt_named_layer ground.p ground.own ground.locals ground.sizes void)
+            (arm_named_layer ground.p ground.own ground.locals ground.sizes void) x) ∙
+            b)
+            (sym (ap (λ (z : ArmLabels). z.holds) labels_as) ∙ l) j le k up);
       })
 
   -- Statements that name only what there is are lowered correctly, at each bound.

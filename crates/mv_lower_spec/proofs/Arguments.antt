@@ -225,8 +225,10 @@ module _ (scene : Scene) (bound : Bound) where
   price t trees = call_cost t + 3 * (callee_nodes scene.setting scene.frame t + nodes_of_all trees)
 
   -- the statement, where depth is left
-  enters : (result : Option ℕ) (t : Callee) (g : ℕ) (trees : List Tree) (vs : List ℕ) (f : Frame) (w : World) (s : State) → Shows scene f w s → map (λ t. val scene t s) trees ≡ vs → goal scene.setting scene.frame t s ≡ At g → ltb scene.frame.depth 512 ≡ true →
-      code_meaning scene.setting scene.frame (call result t trees ∷ []) bound s ≡ spend (price t trees) (made_call result s (c.level bound g vs scene.frame.depth scene.frame.live (seen w)))
+  enters : (result : Option ℕ) (t : Callee) (g : ℕ) (trees : List Tree) (vs : List ℕ) (f : Frame) (w : World) (s : State) → Shows scene f w s →
+      map (λ t. val scene t s) trees ≡ vs → goal scene.setting scene.frame t s ≡ At g → ltb scene.frame.depth 512 ≡ true →
+      code_meaning scene.setting scene.frame (call result t trees ∷ []) bound s ≡
+      spend (price t trees) (made_call result s (c.level bound g vs scene.frame.depth scene.frame.live (seen w)))
   enters result t g trees vs f w s h ev eg e =
       run.runs_call scene bound result t trees s ∙
       ap (λ (x : Goal). spend (price t trees) (call_to x scene.frame.depth scene.frame.live result (map (λ t. val scene t s) trees) bound s)) eg ∙
@@ -235,8 +237,10 @@ module _ (scene : Scene) (bound : Bound) where
       ap (λ r. spend (price t trees) r) (at_level bound result g vs scene.frame.depth scene.frame.live s) ∙
       ap (λ (q : code_world.World). spend (price t trees) (made_call result s (c.level bound g vs scene.frame.depth scene.frame.live q))) h.world
 
-  call_shown : (void : Bool) (n g : ℕ) (t : Callee) (trees : List Tree) (vs : List ℕ) (f : Frame) (w : World) (s : State) (o : Outcome Frame ℕ) → scene.floor ≤ n → n < scene.room → Shows scene f w s →
-      map (λ t. val scene t s) trees ≡ vs → goal scene.setting scene.frame t s ≡ At g → ltb scene.frame.depth 512 ≡ true → c.CallShown scene.p scene.frame scene.own void (c.level bound g vs scene.frame.depth scene.frame.live (seen w)) f w o →
+  call_shown : (void : Bool) (n g : ℕ) (t : Callee) (trees : List Tree) (vs : List ℕ) (f : Frame) (w : World) (s : State) (o : Outcome Frame ℕ) →
+      scene.floor ≤ n → n < scene.room → Shows scene f w s → map (λ t. val scene t s) trees ≡ vs → goal scene.setting scene.frame t s ≡ At g →
+      ltb scene.frame.depth 512 ≡ true →
+      c.CallShown scene.p scene.frame scene.own void (c.level bound g vs scene.frame.depth scene.frame.live (seen w)) f w o →
       Shown scene bound 11 (37 + price t trees) n s (call (unless_void void n) t trees ∷ []) (result_tree void n) o
   call_shown true n g t trees vs f w s (Came v f2 w2 work) le lt h ev eg e a =
       let callee = c.level bound g vs scene.frame.depth scene.frame.live (seen w) in
@@ -306,7 +310,8 @@ module _ (scene : Scene) (bound : Bound) where
   values_length : (ls : List Lowering) (n : ℕ) (vs : List ℕ) (s : State) → map (λ t. val scene t s) (lower_all ls n).trees ≡ vs → length vs ≡ length ls
   values_length ls n vs s e = ap length (sym e) ∙ length-map (lower_all ls n).trees (λ t. val scene t s) ∙ trees_length ls n
 
-  pub correct_call : (context : Context) (void : Bool) (g : ℕ) (es : List Denotation) (ls : List Lowering) → is_callable scene.p g (length ls) void ≡ true → c.CallsAgree scene.p scene.frame scene.own bound context → AllCorrect scene bound es ls →
+  pub correct_call : (context : Context) (void : Bool) (g : ℕ) (es : List Denotation) (ls : List Lowering) →
+      is_callable scene.p g (length ls) void ≡ true → c.CallsAgree scene.p scene.frame scene.own bound context → AllCorrect scene bound es ls →
       CorrectFor scene bound 100 (bind (values_of es) (call_at context g)) (lower_call void g ls)
   correct_call context void g es ls can agrees cs n f w s le fits h =
       let all = lower_all ls n in
@@ -324,8 +329,11 @@ module _ (scene : Scene) (bound : Bound) where
   place_is (n ∷ ns) v i = ap (λ o. cond (eqb n v) (Some i) o) (place_is ns v (suc i))
 
   -- where code and source go through a pointer
-  through_at : (context : Context) (strict : c.IsStrict scene.p scene.setting.numbers context) (t : CType) (n v : ℕ) (callee : Callee) (trees : List Tree) (vs : List ℕ) (f : Frame) (w : World) (s : State) (z : Bool) (o : Option ℕ) →
-      scene.floor ≤ n → n < scene.room → Shows scene f w s → map (λ t. val scene t s) trees ≡ vs → goal scene.setting scene.frame callee s ≡ goal_of scene.setting.numbers v → eqb v 0 ≡ z → place scene.setting.numbers v 0 ≡ o → c.CallsAgree scene.p scene.frame scene.own bound context →
+  through_at : (context : Context) (strict : c.IsStrict scene.p scene.setting.numbers context) (t : CType) (n v : ℕ) (callee : Callee)
+      (trees : List Tree) (vs : List ℕ) (f : Frame) (w : World) (s : State) (z : Bool) (o : Option ℕ) →
+      scene.floor ≤ n → n < scene.room → Shows scene f w s → map (λ t. val scene t s) trees ≡ vs →
+      goal scene.setting scene.frame callee s ≡ goal_of scene.setting.numbers v → eqb v 0 ≡ z → place scene.setting.numbers v 0 ≡ o →
+      c.CallsAgree scene.p scene.frame scene.own bound context →
       Shown scene bound 11 (37 + price callee trees) n s (call (unless_void (is_void t) n) callee trees ∷ []) (result_tree (is_void t) n)
       (cond z (stop (stops.Trapped 3)) (call_numbered context t o vs) f w)
   through_at context strict t n v callee trees vs f w s true o le lt h ev eg ez eo agrees = record {
@@ -341,7 +349,8 @@ module _ (scene : Scene) (bound : Bound) where
       subst (λ (stray : Evaluation ℕ). Shown scene bound 11 (37 + price callee trees) n s (call (unless_void (is_void t) n) callee trees ∷ []) (result_tree (is_void t) n) (stray f w)) (sym strict.stray_is)
       (record { cost = 0; runs = λ ne. no ne; paid = omega arith })
   through_at context strict t n v callee trees vs f w s false (Some g) le lt h ev eg ez eo agrees =
-      subst (λ (lets : CType → ℕ → ℕ → Bool). Shown scene bound 11 (37 + price callee trees) n s (call (unless_void (is_void t) n) callee trees ∷ []) (result_tree (is_void t) n) (cond (lets t g (length vs)) (call_at context g vs) context.stray f w)) (sym strict.lets_are)
+      subst (λ (lets : CType → ℕ → ℕ → Bool). Shown scene bound 11 (37 + price callee trees) n s (call (unless_void (is_void t) n) callee trees ∷ [])
+      (result_tree (is_void t) n) (cond (lets t g (length vs)) (call_at context g vs) context.stray f w)) (sym strict.lets_are)
       (by (is_callable scene.p g (length vs) (is_void t)) refl)
     where
       goal_is : goal scene.setting scene.frame callee s ≡ At g
@@ -370,25 +379,31 @@ module _ (scene : Scene) (bound : Bound) where
   others_are (t ∷ []) s = refl
   others_are (t ∷ u ∷ ts) s = ap (λ l. val scene t s ∷ l) (others_are (u ∷ ts) s)
 
-  pub correct_through : (context : Context) → c.IsStrict scene.p scene.setting.numbers context → (t : CType) (es : List Denotation) (e : Denotation) (ls : List Lowering) (l : Lowering) → c.CallsAgree scene.p scene.frame scene.own bound context → AllCorrect scene bound es ls → Correct scene bound e.value l →
+  pub correct_through : (context : Context) → c.IsStrict scene.p scene.setting.numbers context →
+      (t : CType) (es : List Denotation) (e : Denotation) (ls : List Lowering) (l : Lowering) →
+      c.CallsAgree scene.p scene.frame scene.own bound context → AllCorrect scene bound es ls → Correct scene bound e.value l →
       CorrectFor scene bound 100 (bind (values_of es) (λ vs. bind e.value (λ v. call_through context t v vs))) (lower_through (is_void t) ls l)
   correct_through context strict t es e ls l agrees cs ce =
-      show.comes_to scene bound 100 (bind (values_of (es ++ e ∷ [])) (λ vs. call_through context t (sequences.last_value vs) (sequences.other_values vs))) _ (lower_through (is_void t) ls l)
-      (λ f w. sequences.values_and_last es e (λ v vs. call_through context t v vs) f w)
-      (λ n f w s le fits h.
-      let all = lower_all (ls ++ l ∷ []) n in
+      show.comes_to scene bound 100
+      (bind (values_of (es ++ e ∷ [])) (λ vs. call_through context t (sequences.last_value vs) (sequences.other_values vs))) _
+      (lower_through (is_void t) ls l) (λ f w. sequences.values_and_last es e (λ v vs. call_through context t v vs) f w)
+      (λ n f w s le fits h. let all = lower_all (ls ++ l ∷ []) n in
       let ct = last_of all.trees in
       let args = but_last all.trees in
       let rest = call (unless_void (is_void t) n) (callees.Through ct) args ∷ [] in
-      follow_all 11 100 n s all.code rest all.trees (result_tree (is_void t) n) (values_of (es ++ e ∷ []) f w) (λ vs. call_through context t (sequences.last_value vs) (sequences.other_values vs))
+      follow_all 11 100 n s all.code rest all.trees (result_tree (is_void t) n) (values_of (es ++ e ∷ []) f w)
+      (λ vs. call_through context t (sequences.last_value vs) (sequences.other_values vs))
       (all_shown (es ++ e ∷ []) (ls ++ l ∷ []) (all_appended es ls e l cs ce) n f w s le (omega (arith, fits)) h)
-      (λ vs f1 w1 work r.
-      let v = sequences.last_value vs in
+      (λ vs f1 w1 work r. let v = sequences.last_value vs in
       let us = sequences.other_values vs in
-      show.more_credit scene bound 11 11 (37 + price (callees.Through ct) args) (100 + 3 * nodes_of_all all.trees) n n r.state rest (result_tree (is_void t) n) (call_through context t v us f1 w1) (omega arith) (omega (arith, parts_of all.trees)) (omega (arith, parts_of all.trees))
-      (subst (λ (o : Option ℕ). Shown scene bound 11 (37 + price (callees.Through ct) args) n r.state rest (result_tree (is_void t) n) (cond (eqb v 0) (stop (stops.Trapped 3)) (call_numbered context t o us) f1 w1))
+      show.more_credit scene bound 11 11 (37 + price (callees.Through ct) args) (100 + 3 * nodes_of_all all.trees) n n r.state rest
+      (result_tree (is_void t) n) (call_through context t v us f1 w1) (omega arith) (omega (arith, parts_of all.trees))
+      (omega (arith, parts_of all.trees))
+      (subst (λ (o : Option ℕ). Shown scene bound 11 (37 + price (callees.Through ct) args) n r.state rest (result_tree (is_void t) n)
+      (cond (eqb v 0) (stop (stops.Trapped 3)) (call_numbered context t o us) f1 w1))
       (sym (ap (λ ns. function_of_number ns v) strict.numbers_are ∙ place_is scene.setting.numbers v 0))
-      (through_at context strict t n v (callees.Through ct) args us f1 w1 r.state (eqb v 0) (place scene.setting.numbers v 0) le (omega (arith, fits)) r.shows (others_are all.trees r.state ∙ ap sequences.other_values r.values)
+      (through_at context strict t n v (callees.Through ct) args us f1 w1 r.state (eqb v 0) (place scene.setting.numbers v 0) le
+      (omega (arith, fits)) r.shows (others_are all.trees r.state ∙ ap sequences.other_values r.values)
       (ap (λ x. goal_of scene.setting.numbers x) (last_is all.trees r.state ∙ ap sequences.last_value r.values)) refl refl agrees))))
 
   -- ---- calls through pointer switches
@@ -397,9 +412,12 @@ module _ (scene : Scene) (bound : Bound) where
   abbrev pub switched_read : Context → (global : ℕ) → Evaluation ℕ
   switched_read context g = bind (give (lvalue.Global g 0)) (read_as scene.p context.numbers true)
 
-  pub correct_switched : (context : Context) → c.IsStrict scene.p scene.setting.numbers context → (t : CType) (es : List Denotation) (ls : List Lowering) (g : ℕ) → c.CallsAgree scene.p scene.frame scene.own bound context → AllCorrect scene bound es ls →
+  pub correct_switched : (context : Context) → c.IsStrict scene.p scene.setting.numbers context →
+      (t : CType) (es : List Denotation) (ls : List Lowering) (g : ℕ) → c.CallsAgree scene.p scene.frame scene.own bound context →
+      AllCorrect scene bound es ls →
       ((f : Frame) (w : World) → scene.setting.switched g (seen w) ≡ callee_in scene.p scene.setting.numbers (lvalue.Global g 0) f w) →
-      CorrectFor scene bound 100 (bind (values_of es) (λ vs. bind (counted 1 (switched_read context g)) (λ v. call_through context t v vs))) (lower_switched (is_void t) ls g)
+      CorrectFor scene bound 100 (bind (values_of es) (λ vs. bind (counted 1 (switched_read context g)) (λ v. call_through context t v vs)))
+      (lower_switched (is_void t) ls g)
   correct_switched context strict t es ls g agrees cs same n f w s le fits h =
       let all = lower_all ls n in
       let callee = callees.Switched g in

@@ -165,7 +165,9 @@ module _ (ground : Ground) (void : Bool) where
       below = λ j low high. get_or-set_other s.temps l j x 0 (λ eq. absurd (omega (arith, low, lt, eq))) ∙ h.below j low high;
       temps = length-set s.temps l x ∙ h.temps;
     };
-    each = λ k lk q. stored_alike f.locals s.temps l v x k (omega (arith, lt, h.size)) (subst (λ n. 0 < n) (sym (h.words l lt ∙ ap words_of_size sc)) (omega arith)) (omega (arith, lt, le, h.temps)) e (λ ne. h.each k lk (q.0, only_there l both k ne));
+    each = λ k lk q. stored_alike f.locals s.temps l v x k (omega (arith, lt, h.size))
+        (subst (λ n. 0 < n) (sym (h.words l lt ∙ ap words_of_size sc)) (omega arith)) (omega (arith, lt, le, h.temps)) e
+        (λ ne. h.each k lk (q.0, only_there l both k ne));
   }
     where
       by_elements : (k : ℕ) → k < ground.locals → (ground.sizes k ≡ None → ⊥) → (k ≡ l) ⊎ (k ≡ l → ⊥) → slice_index_or s.arrays k [] ≡ slice_index_or (with_word f.locals l 0 v) k []
@@ -199,15 +201,21 @@ module _ (ground : Ground) (void : Bool) where
   AllAt held b (m ∷ ms) (l ∷ ls) = Correct (declaring ground held) b m l × AllAt held b ms ls
 
   -- one store and then the rest
-  one_store : (j : Jumps) (b : Bound) (l i v : ℕ) (size : Option ℕ) (t : Tree) (rest : List Stm) (f : Frame) (w : World) (s : State) (next : Evaluation Flow) → ground.sizes l ≡ size → l < ground.locals → ground.locals ≤ ground.room → i < words_of_size size →
-      Shows (resting ground) f w s → val (resting ground) t s ≡ v →
-      ((f1 : Frame) (s1 : State) → Shows (resting ground) f1 w s1 → f1 ≡ record f { locals = with_word f.locals l i v } → FlowShown ground void (out_of void j) 0 (code ground rest b s1) (next f1 w)) →
-      FlowShown ground void (out_of void j) (0 + (3 * nodes t + 11)) (code ground (store_word size l i t ∷ rest) b s) (bind (store_lvalue (lvalue.Local l i) v) (λ _. next) f w)
+  one_store : (j : Jumps) (b : Bound) (l i v : ℕ) (size : Option ℕ) (t : Tree) (rest : List Stm) (f : Frame) (w : World) (s : State)
+      (next : Evaluation Flow) →
+      ground.sizes l ≡ size → l < ground.locals → ground.locals ≤ ground.room → i < words_of_size size → Shows (resting ground) f w s →
+      val (resting ground) t s ≡ v →
+      ((f1 : Frame) (s1 : State) → Shows (resting ground) f1 w s1 → f1 ≡ record f { locals = with_word f.locals l i v } →
+      FlowShown ground void (out_of void j) 0 (code ground rest b s1) (next f1 w)) →
+      FlowShown ground void (out_of void j) (0 + (3 * nodes t + 11)) (code ground (store_word size l i t ∷ rest) b s)
+      (bind (store_lvalue (lvalue.Local l i) v) (λ _. next) f w)
   one_store j b l i v None t rest f w s next sz lt le inside h e k =
       let x = val (resting ground) t s in
       let f1 : Frame = record f { locals = with_word f.locals l i v } in
       let zero_is : i ≡ 0 = omega (arith, inside) in
-      let sh : Shows (resting ground) f1 w (with_temp s l x) = subst (λ n. Shows (resting ground) (record f { locals = with_word f.locals l n v }) w (with_temp s l x)) (sym zero_is) (forms.shows_local (resting ground) l v x f w s lt le (sz, refl) e h) in
+      let sh : Shows (resting ground) f1 w (with_temp s l x) = subst
+      (λ n. Shows (resting ground) (record f { locals = with_word f.locals l n v }) w (with_temp s l x)) (sym zero_is)
+      (forms.shows_local (resting ground) l v x f w s lt le (sz, refl) e h) in
       subst (λ (o : Outcome Frame Flow). FlowShown ground void (out_of void j) (0 + (3 * nodes t + 11)) (code ground (set l t ∷ rest) b s) o) (sym (after_zero (next f1 w)))
       (flows.more ground void (out_of void j) (0 + (8 + 3 * nodes t)) (0 + (3 * nodes t + 11)) (code ground (set l t ∷ rest) b s) (next f1 w) (omega arith)
       (flows.priced ground void (out_of void j) 0 (8 + 3 * nodes t) (code ground rest b (with_temp s l x)) (code ground (set l t ∷ rest) b s) (next f1 w)
@@ -233,7 +241,9 @@ module _ (ground : Ground) (void : Bool) where
           Is None = ⊥
           Is (Some x) = Unit {0}
 
-  stores : (j : Jumps) (b : Bound) (l i : ℕ) (ms : List (Evaluation ℕ)) (ls : List Lowering) (f : Frame) (w : World) (s : State) → l < ground.locals → ground.locals ≤ ground.room → i + length ls ≤ words_of_size (ground.sizes l) → values_top ground.locals ls ≤ ground.room → AllAt none b ms ls → Shows (resting ground) f w s →
+  stores : (j : Jumps) (b : Bound) (l i : ℕ) (ms : List (Evaluation ℕ)) (ls : List Lowering) (f : Frame) (w : World) (s : State) → l < ground.locals →
+      ground.locals ≤ ground.room → i + length ls ≤ words_of_size (ground.sizes l) → values_top ground.locals ls ≤ ground.room → AllAt none b ms ls →
+      Shows (resting ground) f w s →
       FlowShown ground void (out_of void j) 0 (code ground (store_values ground.locals (ground.sizes l) l i ls) b s) (put_values l i ms f w)
   stores j b l i [] [] f w s lt le inside fits hs h = record { state = s; cost = 0; runs = refl; shows = h; nothing = λ q. refl; paid = omega arith }
   stores j b l i [] (x ∷ ls) f w s lt le inside fits hs h = absurd hs
@@ -241,10 +251,10 @@ module _ (ground : Ground) (void : Bool) where
   stores j b l i (m ∷ ms) (x ∷ ls) f w s lt le inside fits hs h =
       let e = x ground.locals in
       let rest = store_values ground.locals (ground.sizes l) l (suc i) ls in
-      flows.behind ground void none (out_of void j) b 0 0 ground.locals s e.code (store_word (ground.sizes l) l i e.tree ∷ rest) e.tree (m f w) (λ v. bind (store_lvalue (lvalue.Local l i) v) (λ _. put_values l (suc i) ms)) (hs.0 ground.locals f w s (omega arith) (omega (arith, fits)) h)
-      (λ v f1 w1 work r.
-      one_store j b l i v (ground.sizes l) e.tree rest f1 w1 r.state (put_values l (suc i) ms) refl lt le (omega (arith, inside)) r.shows r.value
-      (λ f2 s2 h2 same. stores j b l (suc i) ms ls f2 w1 s2 lt le (omega (arith, inside)) (omega (arith, fits)) hs.1 h2))
+      flows.behind ground void none (out_of void j) b 0 0 ground.locals s e.code (store_word (ground.sizes l) l i e.tree ∷ rest) e.tree (m f w)
+      (λ v. bind (store_lvalue (lvalue.Local l i) v) (λ _. put_values l (suc i) ms)) (hs.0 ground.locals f w s (omega arith) (omega (arith, fits)) h)
+      (λ v f1 w1 work r. one_store j b l i v (ground.sizes l) e.tree rest f1 w1 r.state (put_values l (suc i) ms) refl lt le (omega (arith, inside))
+      r.shows r.value (λ f2 s2 h2 same. stores j b l (suc i) ms ls f2 w1 s2 lt le (omega (arith, inside)) (omega (arith, fits)) hs.1 h2))
 
   -- all words become 0
   clears : (j : Jumps) (b : Bound) (l : ℕ) (size : Option ℕ) (f : Frame) (w : World) (s : State) → ground.sizes l ≡ size → l < ground.locals → ground.locals ≤ ground.room → Shows (resting ground) f w s →
@@ -255,7 +265,9 @@ module _ (ground : Ground) (void : Bool) where
         state = with_temp s l x;
         cost = 8 + 3 * nodes (number 0);
         runs = run.runs_set (resting ground) b l (number 0) s;
-        shows = subst (λ (ls : List (List ℕ)). Shows (resting ground) (record f { locals = ls }) w (with_temp s l x)) (with_word_is f.locals l 0 0 ∙ ap (λ ws. slice_set f.locals l ws) (one_word (slice_index_or f.locals l []) 0 (h.words l lt ∙ ap words_of_size sz)))
+        shows = subst (λ (ls : List (List ℕ)). Shows (resting ground) (record f { locals = ls }) w (with_temp s l x))
+            (with_word_is f.locals l 0 0 ∙
+            ap (λ ws. slice_set f.locals l ws) (one_word (slice_index_or f.locals l []) 0 (h.words l lt ∙ ap words_of_size sz)))
             (forms.shows_local (resting ground) l 0 x f w s lt le (sz, refl) (run.val_number (resting ground) 0 s) h);
         nothing = λ q. refl;
         paid = omega (arith, nodes_number 0);
@@ -355,9 +367,11 @@ module _ (ground : Ground) (void : Bool) where
       (zeros j b l n (suc i) m ws (slice_set gs i 0) f w s1 apart lt (omega (arith, e)) (one_zero n i ws gs (omega (arith, e)) h) (recoded l ws gs (slice_set gs i 0) f w s lt sh)))
 
   -- the values, and then those words
-  fills : (j : Jumps) (b : Bound) (l n i k m : ℕ) (ms : List (Evaluation ℕ)) (ls : List Lowering) (ws gs : List ℕ) (f : Frame) (w : World) (s : State) → (ground.sizes l ≡ None → ⊥) → l < ground.locals → i + length ls ≡ k → k + m ≡ n → values_top ground.locals ls ≤ ground.room →
+  fills : (j : Jumps) (b : Bound) (l n i k m : ℕ) (ms : List (Evaluation ℕ)) (ls : List Lowering) (ws gs : List ℕ) (f : Frame) (w : World) (s : State) →
+      (ground.sizes l ≡ None → ⊥) → l < ground.locals → i + length ls ≡ k → k + m ≡ n → values_top ground.locals ls ≤ ground.room →
       ((both : List ℕ × List ℕ) → AllAt (only l both) b ms ls) → Halfway n i ws gs → Shows (declaring ground (only l (ws, gs))) f w s →
-      FlowShown ground void (out_of void j) (14 * m) (code ground (store_values ground.locals (Some n) l i ls ++ store_zeros (Some n) l k m) b s) (put_values l i ms f w)
+      FlowShown ground void (out_of void j) (14 * m) (code ground (store_values ground.locals (Some n) l i ls ++ store_zeros (Some n) l k m) b s)
+      (put_values l i ms f w)
   fills j b l n i k m [] [] ws gs f w s apart lt ek en fits hs h sh =
       let ik : k ≡ i = omega (arith, ek) in
       subst (λ q. FlowShown ground void (out_of void j) (14 * m) (code ground (store_zeros (Some n) l q m) b s) (give Goes f w)) (sym ik)
@@ -367,27 +381,42 @@ module _ (ground : Ground) (void : Bool) where
   fills j b l n i k m (q ∷ ms) (x ∷ ls) ws gs f w s apart lt ek en fits hs h sh =
       let e = x ground.locals in
       let rest = store_values ground.locals (Some n) l (suc i) ls ++ store_zeros (Some n) l k m in
-      subst (λ (xs : List Stm). FlowShown ground void (out_of void j) (14 * m) (code ground xs b s) (bind q (λ v. bind (store_lvalue (lvalue.Local l i) v) (λ _. put_values l (suc i) ms)) f w))
-      (sym (append_assoc e.code (write (array.Local l) (number i) e.tree ∷ store_values ground.locals (Some n) l (suc i) ls) (store_zeros (Some n) l k m)))
-      (flows.more ground void (out_of void j) (14 * m + 0) (14 * m) (code ground (e.code ++ (write (array.Local l) (number i) e.tree ∷ rest)) b s) (bind q (λ v. bind (store_lvalue (lvalue.Local l i) v) (λ _. put_values l (suc i) ms)) f w) (omega arith)
-      (flows.behind ground void (only l (ws, gs)) (out_of void j) b (14 * m) 0 ground.locals s e.code (write (array.Local l) (number i) e.tree ∷ rest) e.tree (q f w) (λ v. bind (store_lvalue (lvalue.Local l i) v) (λ _. put_values l (suc i) ms))
+      subst (λ (xs : List Stm). FlowShown ground void (out_of void j) (14 * m) (code ground xs b s)
+      (bind q (λ v. bind (store_lvalue (lvalue.Local l i) v) (λ _. put_values l (suc i) ms)) f w))
+      (sym (append_assoc e.code (write (array.Local l) (number i) e.tree ∷ store_values ground.locals (Some n) l (suc i) ls)
+      (store_zeros (Some n) l k m)))
+      (flows.more ground void (out_of void j) (14 * m + 0) (14 * m) (code ground (e.code ++ (write (array.Local l) (number i) e.tree ∷ rest)) b s)
+      (bind q (λ v. bind (store_lvalue (lvalue.Local l i) v) (λ _. put_values l (suc i) ms)) f w) (omega arith)
+      (flows.behind ground void (only l (ws, gs)) (out_of void j) b (14 * m) 0 ground.locals s e.code
+      (write (array.Local l) (number i) e.tree ∷ rest) e.tree (q f w)
+      (λ v. bind (store_lvalue (lvalue.Local l i) v) (λ _. put_values l (suc i) ms))
       ((hs (ws, gs)).0 ground.locals f w s (omega arith) (omega (arith, fits)) sh)
-      (λ v f1 w1 work r.
-      let sh1 = r.shows in
+      (λ v f1 w1 work r. let sh1 = r.shows in
       let f2 : Frame = record f1 { locals = with_word f1.locals l i v } in
       let s2 = with_elements (array.Local l) r.state (slice_set gs i v) in
       let cost = 8 + 3 * (nodes (number i) + nodes e.tree) in
-      subst (λ (o : Outcome Frame Flow). FlowShown ground void (out_of void j) (14 * m + (3 * nodes e.tree + 11)) (code ground (write (array.Local l) (number i) e.tree ∷ rest) b r.state) o) (sym (after_zero (put_values l (suc i) ms f2 w1)))
-      (flows.more ground void (out_of void j) (14 * m + cost) (14 * m + (3 * nodes e.tree + 11)) (code ground (write (array.Local l) (number i) e.tree ∷ rest) b r.state) (put_values l (suc i) ms f2 w1) (omega (arith, nodes_number i))
-      (flows.priced ground void (out_of void j) (14 * m) cost (code ground rest b s2) (code ground (write (array.Local l) (number i) e.tree ∷ rest) b r.state) (put_values l (suc i) ms f2 w1)
-      (run.joined ground.setting ground.frame (write (array.Local l) (number i) e.tree ∷ []) rest b r.state ∙ ap (λ z. then_do z (code ground rest b))
-      (writes b l i v n gs e.tree r.state (sh1.untouched l (ws, gs) (only_here l (ws, gs))).1 h.code_long (omega (arith, ek, en)) r.value))
-      (fills j b l n (suc i) k m ms ls (slice_set ws i v) (slice_set gs i v) f2 w1 s2 apart lt (omega (arith, ek)) en (omega (arith, fits)) (λ both. (hs both).1) (one_further n i v ws gs (omega (arith, ek, en)) h)
+      subst (λ (o : Outcome Frame Flow). FlowShown ground void (out_of void j) (14 * m + (3 * nodes e.tree + 11))
+      (code ground (write (array.Local l) (number i) e.tree ∷ rest) b r.state) o)
+      (sym (after_zero (put_values l (suc i) ms f2 w1)))
+      (flows.more ground void (out_of void j) (14 * m + cost) (14 * m + (3 * nodes e.tree + 11))
+      (code ground (write (array.Local l) (number i) e.tree ∷ rest) b r.state) (put_values l (suc i) ms f2 w1)
+      (omega (arith, nodes_number i))
+      (flows.priced ground void (out_of void j) (14 * m) cost (code ground rest b s2)
+      (code ground (write (array.Local l) (number i) e.tree ∷ rest) b r.state) (put_values l (suc i) ms f2 w1)
+      (run.joined ground.setting ground.frame (write (array.Local l) (number i) e.tree ∷ []) rest b r.state ∙
+      ap (λ z. then_do z (code ground rest b))
+      (writes b l i v n gs e.tree r.state (sh1.untouched l (ws, gs) (only_here l (ws, gs))).1 h.code_long
+      (omega (arith, ek, en)) r.value))
+      (fills j b l n (suc i) k m ms ls (slice_set ws i v) (slice_set gs i v) f2 w1 s2 apart lt (omega (arith, ek)) en
+      (omega (arith, fits)) (λ both. (hs both).1) (one_further n i v ws gs (omega (arith, ek, en)) h)
       (touched l i v ws gs f1 w1 r.state lt sh1)))))))
 
   -- a scalar with its value
-  fills_scalar : (j : Jumps) (b : Bound) (l : ℕ) (m : Evaluation ℕ) (x : Lowering) (both : List ℕ × List ℕ) (f : Frame) (w : World) (s : State) → ground.sizes l ≡ None → l < ground.locals → ground.locals ≤ ground.room → (x ground.locals).top ≤ ground.room → Correct (declaring ground (only l both)) b m x → Shows (declaring ground (only l both)) f w s →
-      FlowShown ground void (out_of void j) 0 (code ground ((x ground.locals).code ++ (set l (x ground.locals).tree ∷ [])) b s) (put_values l 0 (m ∷ []) f w)
+  fills_scalar : (j : Jumps) (b : Bound) (l : ℕ) (m : Evaluation ℕ) (x : Lowering) (both : List ℕ × List ℕ) (f : Frame) (w : World) (s : State) →
+      ground.sizes l ≡ None → l < ground.locals → ground.locals ≤ ground.room → (x ground.locals).top ≤ ground.room →
+      Correct (declaring ground (only l both)) b m x → Shows (declaring ground (only l both)) f w s →
+      FlowShown ground void (out_of void j) 0 (code ground ((x ground.locals).code ++ (set l (x ground.locals).tree ∷ [])) b s)
+      (put_values l 0 (m ∷ []) f w)
   fills_scalar j b l m x both f w s sz lt le fits cm sh =
       let e = x ground.locals in
       flows.behind ground void (only l both) (out_of void j) b 0 0 ground.locals s e.code (set l e.tree ∷ []) e.tree (m f w) (λ v. bind (store_lvalue (lvalue.Local l 0) v) (λ _. put_values l 1 []))
@@ -406,8 +435,12 @@ module _ (ground : Ground) (void : Bool) where
   -- ---- the declaration
 
   -- the words first, then the values
-  cleared_first : (j : Jumps) (b : Bound) (l : ℕ) (ms : List (Evaluation ℕ)) (ls : List Lowering) (f : Frame) (w : World) (s : State) → l < ground.locals → ground.locals ≤ ground.room → length ls ≤ words_of_size (ground.sizes l) → values_top ground.locals ls ≤ ground.room → AllAt none b ms ls → Shows (resting ground) f w s →
-      FlowShown ground void (out_of void j) (8 + 8 * words_of_size (ground.sizes l)) (code ground (clear_words (ground.sizes l) l ∷ store_values ground.locals (ground.sizes l) l 0 ls) b s) (put_values l 0 ms (record f { locals = slice_set f.locals l (replicate (words_of_size (ground.sizes l)) 0) }) w)
+  cleared_first : (j : Jumps) (b : Bound) (l : ℕ) (ms : List (Evaluation ℕ)) (ls : List Lowering) (f : Frame) (w : World) (s : State) →
+      l < ground.locals → ground.locals ≤ ground.room → length ls ≤ words_of_size (ground.sizes l) → values_top ground.locals ls ≤ ground.room →
+      AllAt none b ms ls → Shows (resting ground) f w s →
+      FlowShown ground void (out_of void j) (8 + 8 * words_of_size (ground.sizes l))
+      (code ground (clear_words (ground.sizes l) l ∷ store_values ground.locals (ground.sizes l) l 0 ls) b s)
+      (put_values l 0 ms (record f { locals = slice_set f.locals l (replicate (words_of_size (ground.sizes l)) 0) }) w)
   cleared_first j b l ms ls f w s lt le inside fits hs h =
       let n = words_of_size (ground.sizes l) in
       let f1 : Frame = record f { locals = slice_set f.locals l (replicate n 0) } in
@@ -422,9 +455,11 @@ module _ (ground : Ground) (void : Bool) where
   starts n gs long = record { source_long = length-replicate n 0; code_long = long; before = λ k lt. absurd (omega (arith, lt)); behind = λ k le. zeros_at n k }
 
   -- the values first
-  values_first : (j : Jumps) (b : Bound) (l : ℕ) (size : Option ℕ) (ms : List (Evaluation ℕ)) (ls : List Lowering) (f : Frame) (w : World) (s : State) → ground.sizes l ≡ size → l < ground.locals → ground.locals ≤ ground.room → length ls ≤ words_of_size size → 0 < length ls → values_top ground.locals ls ≤ ground.room →
-      ((both : List ℕ × List ℕ) → AllAt (only l both) b ms ls) → Shows (resting ground) f w s →
-      FlowShown ground void (out_of void j) (14 * (words_of_size size - length ls)) (code ground (store_values ground.locals size l 0 ls ++ store_zeros size l (length ls) (words_of_size size - length ls)) b s)
+  values_first : (j : Jumps) (b : Bound) (l : ℕ) (size : Option ℕ) (ms : List (Evaluation ℕ)) (ls : List Lowering) (f : Frame) (w : World) (s : State) →
+      ground.sizes l ≡ size → l < ground.locals → ground.locals ≤ ground.room → length ls ≤ words_of_size size → 0 < length ls →
+      values_top ground.locals ls ≤ ground.room → ((both : List ℕ × List ℕ) → AllAt (only l both) b ms ls) → Shows (resting ground) f w s →
+      FlowShown ground void (out_of void j) (14 * (words_of_size size - length ls))
+      (code ground (store_values ground.locals size l 0 ls ++ store_zeros size l (length ls) (words_of_size size - length ls)) b s)
       (put_values l 0 ms (record f { locals = slice_set f.locals l (replicate (words_of_size size) 0) }) w)
   values_first j b l (Some n) ms ls f w s sz lt le inside some fits hs h =
       let gs = slice_index_or s.arrays l [] in
@@ -467,12 +502,17 @@ module _ (ground : Ground) (void : Bool) where
               Is true = ⊥
               Is false = Unit {0}
 
-  pub clear_correct : (j : Jumps) (b : Bound) (l : ℕ) (names_itself : Bool) (ms : List (Evaluation ℕ)) (ls : List Lowering) → l < ground.locals → ground.locals ≤ ground.room → length ms ≡ length ls → length ls ≤ words_of_size (ground.sizes l) → values_top ground.locals ls ≤ ground.room →
+  pub clear_correct : (j : Jumps) (b : Bound) (l : ℕ) (names_itself : Bool) (ms : List (Evaluation ℕ)) (ls : List Lowering) → l < ground.locals →
+      ground.locals ≤ ground.room → length ms ≡ length ls → length ls ≤ words_of_size (ground.sizes l) → values_top ground.locals ls ≤ ground.room →
       AllAt none b ms ls → (names_itself ≡ false → (both : List ℕ × List ℕ) → AllAt (only l both) b ms ls) →
-      FlowCorrect ground void (out_of void j) 72 b (clear_local l names_itself ms) (lower_clear ground.locals (ground.sizes l) l names_itself ls j).code
+      FlowCorrect ground void (out_of void j) 72 b (clear_local l names_itself ms)
+      (lower_clear ground.locals (ground.sizes l) l names_itself ls j).code
   clear_correct j b l names_itself ms ls lt le same inside fits all others f w s h =
-      subst (λ k. FlowShown ground void (out_of void j) 72 (code ground (lower_clear ground.locals (ground.sizes l) l names_itself ls j).code b s) (after (cond names_itself k (k - length ms)) (put_values l 0 ms (record f { locals = slice_set f.locals l (replicate k 0) }) w))) (sym size_is)
-      (subst (λ k. FlowShown ground void (out_of void j) 72 (code ground (lower_clear ground.locals (ground.sizes l) l names_itself ls j).code b s) (after (cond names_itself n (n - k)) (put_values l 0 ms f1 w))) (sym same)
+      subst (λ k. FlowShown ground void (out_of void j) 72 (code ground (lower_clear ground.locals (ground.sizes l) l names_itself ls j).code b s)
+      (after (cond names_itself k (k - length ms)) (put_values l 0 ms (record f { locals = slice_set f.locals l (replicate k 0) }) w)))
+      (sym size_is) (subst (λ k. FlowShown ground void (out_of void j) 72
+      (code ground (lower_clear ground.locals (ground.sizes l) l names_itself ls j).code b s)
+      (after (cond names_itself n (n - k)) (put_values l 0 ms f1 w))) (sym same)
       (by names_itself (nat_le (8 * n) (92 * (n - length ls))) refl (λ z. others z)))
     where
       n : ℕ
@@ -485,7 +525,9 @@ module _ (ground : Ground) (void : Bool) where
       f1 = record f { locals = slice_set f.locals l (replicate n 0) }
 
       by : (z c : Bool) → nat_le (8 * n) (92 * (n - length ls)) ≡ c → (z ≡ false → (both : List ℕ × List ℕ) → AllAt (only l both) b ms ls) →
-          FlowShown ground void (out_of void j) 72 (code ground (cond (z || c) (clear_words (ground.sizes l) l ∷ store_values ground.locals (ground.sizes l) l 0 ls) (store_values ground.locals (ground.sizes l) l 0 ls ++ store_zeros (ground.sizes l) l (length ls) (n - length ls))) b s)
+          FlowShown ground void (out_of void j) 72
+          (code ground (cond (z || c) (clear_words (ground.sizes l) l ∷ store_values ground.locals (ground.sizes l) l 0 ls)
+          (store_values ground.locals (ground.sizes l) l 0 ls ++ store_zeros (ground.sizes l) l (length ls) (n - length ls))) b s)
           (after (cond z n (n - length ls)) (put_values l 0 ms f1 w))
       by true c e free =
           flows.paid_by ground void (out_of void j) 72 n _ (put_values l 0 ms f1 w)

@@ -106,7 +106,8 @@ module _ (scene : Scene) where
   value_is (array.SureGlobal g n) i f w s isa h = absurd isa
   value_is (array.SureLocal l n) i f w s isa h = absurd isa
 
-  pub element_is : (a : Array) (i : ℕ) (f : Frame) (w : World) (s : State) → IsArray scene.ground scene.held a → Shows scene f w s → element_of a i f w ≡ cond (ltb i (size_in scene.ground scene.held a)) (give (lvalue_in a i)) (stop (Trapped 2)) f w
+  pub element_is : (a : Array) (i : ℕ) (f : Frame) (w : World) (s : State) → IsArray scene.ground scene.held a → Shows scene f w s →
+      element_of a i f w ≡ cond (ltb i (size_in scene.ground scene.held a)) (give (lvalue_in a i)) (stop (Trapped 2)) f w
   element_is (array.Global g) i f w s isa h =
       ap (λ n. element_below n i (lvalue.Global g) f w) (ap length (objects_at w.globals g) ∙ h.globals g)
   element_is (array.Local l) i f w s isa h =
@@ -115,7 +116,8 @@ module _ (scene : Scene) where
   element_is (array.SureLocal l n) i f w s isa h = absurd isa
 
   -- the test of an index, as the code makes it
-  test_is : (a : Array) (i : Tree) (k : ℕ) (f : Frame) (w : World) (s : State) (z : Bool) → IsArray scene.ground scene.held a → Shows scene f w s → val scene i s ≡ k → ltb k (size_in scene.ground scene.held a) ≡ z → ltb (val scene i s) (length (elements a s)) ≡ z
+  test_is : (a : Array) (i : Tree) (k : ℕ) (f : Frame) (w : World) (s : State) (z : Bool) → IsArray scene.ground scene.held a → Shows scene f w s →
+      val scene i s ≡ k → ltb k (size_in scene.ground scene.held a) ≡ z → ltb (val scene i s) (length (elements a s)) ≡ z
   test_is a i k f w s z isa h ek e =
       ap (λ j. ltb j (length (elements a s))) ek ∙ ap (λ xs. ltb k (length xs)) (elements_are a f w s isa h) ∙ ap (λ n. ltb k n) (words_long a f w s isa h) ∙ e
 
@@ -159,7 +161,9 @@ module _ (scene : Scene) where
 module _ (scene : Scene) (bound : Bound) where
   -- ---- reads
 
-  pub read_at : (credit n k : ℕ) (a : Array) (i : Tree) (f : Frame) (w : World) (s : State) (z : Bool) → 22 + 3 * nodes i ≤ credit → IsArray scene.ground scene.held a → scene.floor ≤ n → n < scene.room → Shows scene f w s → val scene i s ≡ k → ltb k (size_in scene.ground scene.held a) ≡ z →
+  pub read_at : (credit n k : ℕ) (a : Array) (i : Tree) (f : Frame) (w : World) (s : State) (z : Bool) → 22 + 3 * nodes i ≤ credit →
+      IsArray scene.ground scene.held a → scene.floor ≤ n → n < scene.room → Shows scene f w s → val scene i s ≡ k →
+      ltb k (size_in scene.ground scene.held a) ≡ z →
       Shown scene bound 11 credit n s (read n a i ∷ []) (temp n) (bind (cond z (give (lvalue_in a k)) (stop (Trapped 2))) (read_lvalue scene.p) f w)
   read_at credit n k a i f w s true enough isa le lt h ek e =
       let x = slice_index (elements a s) (val scene i s) in
@@ -176,8 +180,10 @@ module _ (scene : Scene) (bound : Bound) where
       }
   read_at credit n k a i f w s false enough isa le lt h ek e = record {
     cost = 8 + 3 * nodes i;
-    runs = λ ne.
-        run.runs_read scene bound n a i s ∙ ap (λ q. c.ran (8 + 3 * nodes i) (cond q (Next (with_temp s n (slice_index (elements a s) (val scene i s)))) (Ends (outside a (val scene i s) s.world)))) (test_is scene a i k f w s false isa h ek e) ∙
+    runs = λ ne. run.runs_read scene bound n a i s ∙
+        ap (λ q. c.ran (8 + 3 * nodes i)
+        (cond q (Next (with_temp s n (slice_index (elements a s) (val scene i s)))) (Ends (outside a (val scene i s) s.world))))
+        (test_is scene a i k f w s false isa h ek e) ∙
         ap (λ q. c.ran (8 + 3 * nodes i) (Ends q)) (outside_is scene a (val scene i s) f w s isa h);
     paid = omega (arith, enough);
   }
@@ -193,7 +199,8 @@ module _ (scene : Scene) (bound : Bound) where
       (read_at (11 + (3 * nodes i.tree + 11)) n v a i.tree f1 w1 r.state (ltb v (size_in scene.ground scene.held a)) (omega arith) isa le (omega (arith, fits)) r.shows r.value refl))
 
   -- an element whose index a temporary holds
-  pub correct_element : (at k : ℕ) (a : Array) → IsArray scene.ground scene.held a → scene.locals ≤ at → at < scene.floor → scene.scratch at ≡ k → k < size_in scene.ground scene.held a → CorrectFor scene bound 25 (read_lvalue scene.p (lvalue_in a k)) (lower_element a at)
+  pub correct_element : (at k : ℕ) (a : Array) → IsArray scene.ground scene.held a → scene.locals ≤ at → at < scene.floor → scene.scratch at ≡ k →
+      k < size_in scene.ground scene.held a → CorrectFor scene bound 25 (read_lvalue scene.p (lvalue_in a k)) (lower_element a at)
   correct_element at k a isa low high ek lt n f w s le fits h =
       read_at 25 n k a (temp at) f w s true (omega (arith, nodes_temp at)) isa le (omega (arith, fits)) h (run.val_temp scene at s ∙ h.below at low high ∙ ek) (lt-ltb k (size_in scene.ground scene.held a) lt)
 
@@ -204,12 +211,16 @@ module _ (scene : Scene) (bound : Bound) where
       Runs scene bound (write a i tv ∷ []) s (Next (with_elements a s (slice_set (elements a s) v u))) (8 + 3 * (nodes i + nodes tv))
   runs_written a i tv v u f w s isa h ev eu lt =
       run.runs_write scene bound a i tv s ∙
-      ap (λ q. c.ran (8 + 3 * (nodes i + nodes tv)) (cond q (Next (with_elements a s (slice_set (elements a s) (val scene i s) (val scene tv s)))) (Ends (outside a (val scene i s) s.world)))) (test_is scene a i v f w s true isa h ev (lt-ltb v (size_in scene.ground scene.held a) lt)) ∙
+      ap (λ q. c.ran (8 + 3 * (nodes i + nodes tv))
+      (cond q (Next (with_elements a s (slice_set (elements a s) (val scene i s) (val scene tv s))))
+      (Ends (outside a (val scene i s) s.world))))
+      (test_is scene a i v f w s true isa h ev (lt-ltb v (size_in scene.ground scene.held a) lt)) ∙
       ap (λ j. c.ran (8 + 3 * (nodes i + nodes tv)) (Next (with_elements a s (slice_set (elements a s) j (val scene tv s))))) ev ∙
       ap (λ j. c.ran (8 + 3 * (nodes i + nodes tv)) (Next (with_elements a s (slice_set (elements a s) v j)))) eu
 
-  pub written : (due credit n m result v u : ℕ) (a : Array) (i tv : Tree) (f : Frame) (w : World) (s : State) → IsArray scene.ground scene.held a → Shows scene f w s → val scene i s ≡ v → val scene tv s ≡ u → v < size_in scene.ground scene.held a →
-      slice_index s.temps m ≡ result → 8 + 3 * (nodes i + nodes tv) + 3 + due ≤ credit →
+  pub written : (due credit n m result v u : ℕ) (a : Array) (i tv : Tree) (f : Frame) (w : World) (s : State) → IsArray scene.ground scene.held a →
+      Shows scene f w s → val scene i s ≡ v → val scene tv s ≡ u → v < size_in scene.ground scene.held a → slice_index s.temps m ≡ result →
+      8 + 3 * (nodes i + nodes tv) + 3 + due ≤ credit →
       Shown scene bound due credit n s (write a i tv ∷ []) (temp m) (and_then (store_lvalue (lvalue_in a v) u f w) (λ new. give result))
   written due credit n m result v u (array.Global g) i tv f w s isa h ev eu lt er enough =
       let s1 = with_elements (array.Global g) s (slice_set (elements (array.Global g) s) v u) in
@@ -243,23 +254,31 @@ module _ (scene : Scene) (bound : Bound) where
   store_gives (array.SureLocal l n) v u f w = refl
 
   -- a value that is put into the first free temporary and then stored, the index standing in the second
-  put_and_written : (n v u : ℕ) (a : Array) (t : Tree) (f : Frame) (w : World) (s : State) → IsArray scene.ground scene.held a → scene.floor ≤ n → n + 1 < scene.room → Shows scene f w s → val scene t s ≡ u → slice_index s.temps (n + 1) ≡ v → v < size_in scene.ground scene.held a →
-      Shown scene bound 11 (25 + (3 * nodes t + 11)) n s (set n t ∷ write a (temp (n + 1)) (temp n) ∷ []) (temp n) (store_lvalue (lvalue_in a v) u f w)
+  put_and_written : (n v u : ℕ) (a : Array) (t : Tree) (f : Frame) (w : World) (s : State) → IsArray scene.ground scene.held a → scene.floor ≤ n →
+      n + 1 < scene.room → Shows scene f w s → val scene t s ≡ u → slice_index s.temps (n + 1) ≡ v → v < size_in scene.ground scene.held a →
+      Shown scene bound 11 (25 + (3 * nodes t + 11)) n s (set n t ∷ write a (temp (n + 1)) (temp n) ∷ []) (temp n)
+      (store_lvalue (lvalue_in a v) u f w)
   put_and_written n v u a t f w s isa le room h eu ev lt =
       let x = val scene t s in
       let s1 = with_temp s n x in
       let first_is : slice_index s1.temps n ≡ u = get_or-set_same s.temps n x 0 (subst (λ j. n < j) (sym h.temps) (omega (arith, room))) ∙ eu in
-      subst (λ (o : Outcome Frame ℕ). Shown scene bound 11 (25 + (3 * nodes t + 11)) n s (set n t ∷ write a (temp (n + 1)) (temp n) ∷ []) (temp n) o) (store_gives a v u f w)
-      (show.more_credit scene bound 11 11 (28 + (8 + 3 * nodes t)) (25 + (3 * nodes t + 11)) n n s (set n t ∷ write a (temp (n + 1)) (temp n) ∷ []) (temp n) (and_then (store_lvalue (lvalue_in a v) u f w) (λ new. give u)) (omega arith) (omega arith) (omega arith)
-      (control.after_step scene bound 11 28 n (8 + 3 * nodes t) s s1 (set n t ∷ []) (write a (temp (n + 1)) (temp n) ∷ []) (temp n) (and_then (store_lvalue (lvalue_in a v) u f w) (λ new. give u)) (run.runs_set scene bound n t s) (show.kept_temp scene n s x)
+      subst (λ (o : Outcome Frame ℕ). Shown scene bound 11 (25 + (3 * nodes t + 11)) n s (set n t ∷ write a (temp (n + 1)) (temp n) ∷ []) (temp n) o)
+      (store_gives a v u f w) (show.more_credit scene bound 11 11 (28 + (8 + 3 * nodes t)) (25 + (3 * nodes t + 11)) n n s
+      (set n t ∷ write a (temp (n + 1)) (temp n) ∷ []) (temp n) (and_then (store_lvalue (lvalue_in a v) u f w) (λ new. give u)) (omega arith)
+      (omega arith) (omega arith)
+      (control.after_step scene bound 11 28 n (8 + 3 * nodes t) s s1 (set n t ∷ []) (write a (temp (n + 1)) (temp n) ∷ []) (temp n)
+      (and_then (store_lvalue (lvalue_in a v) u f w) (λ new. give u)) (run.runs_set scene bound n t s) (show.kept_temp scene n s x)
       (written 11 28 n n u v u a (temp (n + 1)) (temp n) f w s1 isa (show.shows_temp scene f w s n x le h)
       (run.val_temp scene (n + 1) s1 ∙ get_or-set_other s.temps n (n + 1) x 0 (λ e. absurd (omega (arith, e))) ∙ ev)
       (run.val_temp scene n s1 ∙ first_is) lt first_is (omega (arith, nodes_temp n, nodes_temp (n + 1))))))
 
   -- the test of an index, and then the rest
-  checked : (due credit n k : ℕ) (a : Array) (i : Tree) (rest : List Stm) (t : Tree) (f : Frame) (w : World) (s : State) (next : Lvalue → Evaluation ℕ) (z : Bool) → IsArray scene.ground scene.held a → Shows scene f w s → val scene i s ≡ k → ltb k (size_in scene.ground scene.held a) ≡ z →
+  checked : (due credit n k : ℕ) (a : Array) (i : Tree) (rest : List Stm) (t : Tree) (f : Frame) (w : World) (s : State)
+      (next : Lvalue → Evaluation ℕ) (z : Bool) →
+      IsArray scene.ground scene.held a → Shows scene f w s → val scene i s ≡ k → ltb k (size_in scene.ground scene.held a) ≡ z →
       (z ≡ true → Shown scene bound due credit n s rest t (next (lvalue_in a k) f w)) →
-      Shown scene bound due (credit + (8 + 3 * nodes i)) n s (check a i ∷ rest) t (and_then (cond z (give (lvalue_in a k)) (stop (Trapped 2)) f w) next)
+      Shown scene bound due (credit + (8 + 3 * nodes i)) n s (check a i ∷ rest) t
+      (and_then (cond z (give (lvalue_in a k)) (stop (Trapped 2)) f w) next)
   checked due credit n k a i rest t f w s next true isa h ek e rest_shown =
       subst (λ (o : Outcome Frame ℕ). Shown scene bound due (credit + (8 + 3 * nodes i)) n s (check a i ∷ rest) t o) (sym (sequences.after_zero (next (lvalue_in a k) f w)))
       (control.within scene bound due credit n (8 + 3 * nodes i) s rest (check a i ∷ rest) t (next (lvalue_in a k) f w)
@@ -310,22 +329,30 @@ module _ (scene : Scene) (bound : Bound) where
       let x = lv n (n + 2) in
       let last = set n x.tree ∷ write a (temp (n + 1)) (temp n) ∷ [] in
       let rest = check a (temp (n + 1)) ∷ (x.code ++ last) in
-      show.follow scene bound 11 (ki + (kv + 39)) (kv + 39) 0 ki n n s (i.code ++ set (n + 1) i.tree ∷ []) rest (temp n) (temp (n + 1)) (mi f w) (λ v. bind (element_of a v) (λ at. bind (mv at) (store_lvalue at))) (omega arith) (omega arith)
-      (show.put_away scene bound ki n (n + 1) s i (mi f w) (omega arith) (omega (arith, le)) (omega (arith, fits)) (ci n f w s le (omega (arith, fits)) h))
-      (λ v f1 w1 work r.
-      subst (λ (o : Outcome Frame Lvalue). Shown scene bound 11 (kv + 39 + (3 * nodes (temp (n + 1)) + 0)) n r.state rest (temp n) (and_then o (λ at. bind (mv at) (store_lvalue at)))) (sym (element_is scene a v f1 w1 r.state isa r.shows))
-      (show.more_credit scene bound 11 11 (kv + 25 + (8 + 3 * nodes (temp (n + 1)))) (kv + 39 + (3 * nodes (temp (n + 1)) + 0)) n n r.state rest (temp n)
-      (and_then (cond (ltb v (size_in scene.ground scene.held a)) (give (lvalue_in a v)) (stop (Trapped 2)) f1 w1) (λ at. bind (mv at) (store_lvalue at))) (omega (arith, nodes_temp (n + 1))) (omega (arith, nodes_temp (n + 1))) (omega (arith, nodes_temp (n + 1)))
-      (checked 11 (kv + 25) n v a (temp (n + 1)) (x.code ++ last) (temp n) f1 w1 r.state (λ at. bind (mv at) (store_lvalue at)) (ltb v (size_in scene.ground scene.held a)) isa r.shows r.value refl
-      (λ inside.
-      let kept : ℕ → ℕ = λ k. slice_index r.state.temps k in
+      show.follow scene bound 11 (ki + (kv + 39)) (kv + 39) 0 ki n n s (i.code ++ set (n + 1) i.tree ∷ []) rest (temp n) (temp (n + 1)) (mi f w)
+      (λ v. bind (element_of a v) (λ at. bind (mv at) (store_lvalue at))) (omega arith) (omega arith)
+      (show.put_away scene bound ki n (n + 1) s i (mi f w) (omega arith) (omega (arith, le)) (omega (arith, fits))
+      (ci n f w s le (omega (arith, fits)) h))
+      (λ v f1 w1 work r. subst (λ (o : Outcome Frame Lvalue).
+      Shown scene bound 11 (kv + 39 + (3 * nodes (temp (n + 1)) + 0)) n r.state rest (temp n)
+      (and_then o (λ at. bind (mv at) (store_lvalue at))))
+      (sym (element_is scene a v f1 w1 r.state isa r.shows))
+      (show.more_credit scene bound 11 11 (kv + 25 + (8 + 3 * nodes (temp (n + 1)))) (kv + 39 + (3 * nodes (temp (n + 1)) + 0)) n n r.state rest
+      (temp n) (and_then (cond (ltb v (size_in scene.ground scene.held a)) (give (lvalue_in a v)) (stop (Trapped 2)) f1 w1)
+      (λ at. bind (mv at) (store_lvalue at)))
+      (omega (arith, nodes_temp (n + 1))) (omega (arith, nodes_temp (n + 1))) (omega (arith, nodes_temp (n + 1)))
+      (checked 11 (kv + 25) n v a (temp (n + 1)) (x.code ++ last) (temp n) f1 w1 r.state (λ at. bind (mv at) (store_lvalue at))
+      (ltb v (size_in scene.ground scene.held a)) isa r.shows r.value refl
+      (λ inside. let kept : ℕ → ℕ = λ k. slice_index r.state.temps k in
       let index_is : kept (n + 1) ≡ v = sym (run.val_temp scene (n + 1) r.state) ∙ r.value in
       let lt : v < size_in scene.ground scene.held a = ltb-true v (size_in scene.ground scene.held a) inside in
-      show.follow scene bound 11 (kv + 25) 25 11 kv n (n + 2) r.state x.code last (temp n) x.tree (mv (lvalue_in a v) f1 w1) (store_lvalue (lvalue_in a v)) (omega arith) (omega arith)
+      show.follow scene bound 11 (kv + 25) 25 11 kv n (n + 2) r.state x.code last (temp n) x.tree (mv (lvalue_in a v) f1 w1)
+      (store_lvalue (lvalue_in a v)) (omega arith) (omega arith)
       (lower_floor kv (n + 2) r.state x.code x.tree (mv (lvalue_in a v) f1 w1) f1 w1 (omega (arith, le)) r.shows
-      (cv n v kept le (omega (arith, le, r.shows.above)) index_is lt (n + 2) f1 w1 r.state (omega arith) (omega (arith, fits)) (raise_floor scene (n + 2) f1 w1 r.state (omega (arith, le)) r.shows)))
-      (λ u f2 w2 work2 r2.
-      put_and_written n v u a x.tree f2 w2 r2.state isa le (omega (arith, fits)) r2.shows r2.value (r2.kept (n + 1) (omega (arith, le)) (omega arith) ∙ index_is) lt)))))
+      (cv n v kept le (omega (arith, le, r.shows.above)) index_is lt (n + 2) f1 w1 r.state (omega arith) (omega (arith, fits))
+      (raise_floor scene (n + 2) f1 w1 r.state (omega (arith, le)) r.shows)))
+      (λ u f2 w2 work2 r2. put_and_written n v u a x.tree f2 w2 r2.state isa le (omega (arith, fits)) r2.shows r2.value
+      (r2.kept (n + 1) (omega (arith, le)) (omega arith) ∙ index_is) lt)))))
 
   -- ---- `++` and `--` behind a place
 
@@ -384,8 +411,10 @@ module _ (scene : Scene) (bound : Bound) where
       }
 
   -- after the read of an element
-  after_read : (n k : ℕ) (up : Bool) (t : CType) (a : Array) (f : Frame) (w : World) (s : State) (z : Bool) → IsArray scene.ground scene.held a → scene.floor ≤ n → n + 1 < scene.room → Shows scene f w s → slice_index s.temps (n + 1) ≡ k → ltb k (size_in scene.ground scene.held a) ≡ z →
-      Shown scene bound 11 (40 + (8 + 3 * nodes (temp (n + 1)))) n s (read n a (temp (n + 1)) ∷ write a (temp (n + 1)) (next_tree up t (temp n)) ∷ []) (temp n) (and_then (cond z (give (lvalue_in a k)) (stop (Trapped 2)) f w) (Stepped up t))
+  after_read : (n k : ℕ) (up : Bool) (t : CType) (a : Array) (f : Frame) (w : World) (s : State) (z : Bool) → IsArray scene.ground scene.held a →
+      scene.floor ≤ n → n + 1 < scene.room → Shows scene f w s → slice_index s.temps (n + 1) ≡ k → ltb k (size_in scene.ground scene.held a) ≡ z →
+      Shown scene bound 11 (40 + (8 + 3 * nodes (temp (n + 1)))) n s (read n a (temp (n + 1)) ∷ write a (temp (n + 1)) (next_tree up t (temp n)) ∷ [])
+      (temp n) (and_then (cond z (give (lvalue_in a k)) (stop (Trapped 2)) f w) (Stepped up t))
   after_read n k up t a f w s true isa le room h ek e =
       let old = value_in scene.p (lvalue_in a k) f w in
       let i = temp (n + 1) in
@@ -406,8 +435,13 @@ module _ (scene : Scene) (bound : Bound) where
       (omega (arith, nodes_temp (n + 1), next_nodes up t n))))
   after_read n k up t a f w s false isa le room h ek e = record {
     cost = 8 + 3 * nodes (temp (n + 1));
-    runs = λ ne. run.runs_stop scene bound (read n a (temp (n + 1)) ∷ []) (write a (temp (n + 1)) (next_tree up t (temp n)) ∷ []) s _ (8 + 3 * nodes (temp (n + 1)))
-        (run.runs_read scene bound n a (temp (n + 1)) s ∙ ap (λ q. c.ran (8 + 3 * nodes (temp (n + 1))) (cond q (Next (with_temp s n (slice_index (elements a s) (val scene (temp (n + 1)) s)))) (Ends (outside a (val scene (temp (n + 1)) s) s.world)))) (test_is scene a (temp (n + 1)) k f w s false isa h (run.val_temp scene (n + 1) s ∙ ek) e) ∙
+    runs = λ ne. run.runs_stop scene bound (read n a (temp (n + 1)) ∷ []) (write a (temp (n + 1)) (next_tree up t (temp n)) ∷ []) s _
+        (8 + 3 * nodes (temp (n + 1)))
+        (run.runs_read scene bound n a (temp (n + 1)) s ∙
+        ap (λ q. c.ran (8 + 3 * nodes (temp (n + 1)))
+        (cond q (Next (with_temp s n (slice_index (elements a s) (val scene (temp (n + 1)) s))))
+        (Ends (outside a (val scene (temp (n + 1)) s) s.world))))
+        (test_is scene a (temp (n + 1)) k f w s false isa h (run.val_temp scene (n + 1) s ∙ ek) e) ∙
         ap (λ q. c.ran (8 + 3 * nodes (temp (n + 1))) (Ends q)) (outside_is scene a (val scene (temp (n + 1)) s) f w s isa h));
     paid = omega (arith, nodes_temp (n + 1));
   }

@@ -36,7 +36,7 @@ use Rattle.mv_lower_spec.specs.Lower.{FormPart, Part, Place, InLocal, InGlobal, 
 use Rattle.mv_source_forms.specs.Names.{is_void, is_callable, is_scalar, is_own_switch, names_form, names_target, names_layer, form_is_well_named, target_is_well_named, is_well_named}
 use Rattle.mv_source_forms.specs.Lists.{all_of}
 use Rattle.mv_lower_spec.specs.Correct as c
-use Rattle.mv_lower_spec.specs.Correct.{Ground, Scene, Held, scene_of, val, CorrectFor, Correct, AllCorrect, IsScalar}
+use Rattle.mv_lower_spec.specs.Correct.{Ground, Scene, Held, scene_of, val, CorrectFor, AllCorrect, IsScalar}
 use Rattle.mv_lower_spec.proofs.Running.{nodes_binary}
 use Rattle.mv_lower_spec.proofs.Forms as forms
 use Rattle.mv_lower_spec.proofs.Control as control
@@ -262,9 +262,11 @@ module _ (ground : Ground) (held : Held) (bound : Bound)
 
   set_correct : (m : Evaluation Lvalue) (x : Place) (ma : Evaluation ℕ) (la : Lowering) → PlaceShown m x → Everywhere 0 ma la → Everywhere 100 (bind m (λ at. bind ma (store_lvalue at))) (lower_set x la)
   set_correct m (InLocal l) ma la h ca floor scratch =
-      subst (λ (k : Evaluation Lvalue). CorrectFor (scene floor scratch) bound 100 (bind k (λ at. bind ma (store_lvalue at))) (lower_set_local l la)) (sym h.0)
-      (show.comes_to (scene floor scratch) bound 100 (bind ma (store_lvalue (lvalue.Local l 0))) _ (lower_set_local l la) (λ f w. sym (sequences.given (lvalue.Local l 0) (λ at. bind ma (store_lvalue at)) f w))
-      (show.with_more (scene floor scratch) bound (0 + 11) 100 (bind ma (store_lvalue (lvalue.Local l 0))) (lower_set_local l la) (omega arith) (forms.correct_set_local (scene floor scratch) bound 0 l ma la h.1 room h.2 (ca floor scratch))))
+      subst (λ (k : Evaluation Lvalue). CorrectFor (scene floor scratch) bound 100 (bind k (λ at. bind ma (store_lvalue at))) (lower_set_local l la))
+      (sym h.0) (show.comes_to (scene floor scratch) bound 100 (bind ma (store_lvalue (lvalue.Local l 0))) _ (lower_set_local l la)
+      (λ f w. sym (sequences.given (lvalue.Local l 0) (λ at. bind ma (store_lvalue at)) f w))
+      (show.with_more (scene floor scratch) bound (0 + 11) 100 (bind ma (store_lvalue (lvalue.Local l 0))) (lower_set_local l la) (omega arith)
+      (forms.correct_set_local (scene floor scratch) bound 0 l ma la h.1 room h.2 (ca floor scratch))))
   set_correct m (InGlobal g) ma la h ca floor scratch =
       subst (λ (k : Evaluation Lvalue). CorrectFor (scene floor scratch) bound 100 (bind k (λ at. bind ma (store_lvalue at))) (lower_set_global g la)) (sym h)
       (show.comes_to (scene floor scratch) bound 100 (bind ma (store_lvalue (lvalue.Global g 0))) _ (lower_set_global g la) (λ f w. sym (sequences.given (lvalue.Global g 0) (λ at. bind ma (store_lvalue at)) f w))
@@ -301,19 +303,27 @@ module _ (ground : Ground) (held : Held) (bound : Bound)
   change_correct op kind t m (InLocal l) ma la h ca floor scratch =
       let at = lvalue.Local l 0 in
       let new = lower_changed op kind t (lower_local l) la in
-      subst (λ (k : Evaluation Lvalue). CorrectFor (scene floor scratch) bound 100 (bind k (Change op kind t ma)) (lower_change op kind t (InLocal l) la)) (sym h.0)
-      (show.comes_to (scene floor scratch) bound 100 (bind (Changed op kind t ma (read_lvalue ground.p at)) (store_lvalue at)) _ (lower_change op kind t (InLocal l) la) (λ f w. change_is op kind t ma at f w ∙ sym (sequences.given at (Change op kind t ma) f w))
-      (show.with_more (scene floor scratch) bound (14 + 36 + 11) 100 (bind (Changed op kind t ma (read_lvalue ground.p at)) (store_lvalue at)) (lower_set_local l new) (omega arith)
+      subst
+      (λ (k : Evaluation Lvalue). CorrectFor (scene floor scratch) bound 100 (bind k (Change op kind t ma)) (lower_change op kind t (InLocal l) la))
+      (sym h.0) (show.comes_to (scene floor scratch) bound 100 (bind (Changed op kind t ma (read_lvalue ground.p at)) (store_lvalue at)) _
+      (lower_change op kind t (InLocal l) la) (λ f w. change_is op kind t ma at f w ∙ sym (sequences.given at (Change op kind t ma) f w))
+      (show.with_more (scene floor scratch) bound (14 + 36 + 11) 100 (bind (Changed op kind t ma (read_lvalue ground.p at)) (store_lvalue at))
+      (lower_set_local l new) (omega arith)
       (forms.correct_set_local (scene floor scratch) bound (14 + 36) l (Changed op kind t ma (read_lvalue ground.p at)) new h.1 room h.2
-      (changed op kind t 14 ma (read_lvalue ground.p at) la (lower_local l) floor scratch (ca floor scratch) (forms.correct_local (scene floor scratch) bound l h.1 h.2)))))
+      (changed op kind t 14 ma (read_lvalue ground.p at) la (lower_local l) floor scratch (ca floor scratch)
+      (forms.correct_local (scene floor scratch) bound l h.1 h.2)))))
   change_correct op kind t m (InGlobal g) ma la h ca floor scratch =
       let at = lvalue.Global g 0 in
       let new = lower_changed op kind t (lower_global g) la in
-      subst (λ (k : Evaluation Lvalue). CorrectFor (scene floor scratch) bound 100 (bind k (Change op kind t ma)) (lower_change op kind t (InGlobal g) la)) (sym h)
-      (show.comes_to (scene floor scratch) bound 100 (bind (Changed op kind t ma (read_lvalue ground.p at)) (store_lvalue at)) _ (lower_change op kind t (InGlobal g) la) (λ f w. change_is op kind t ma at f w ∙ sym (sequences.given at (Change op kind t ma) f w))
-      (show.with_more (scene floor scratch) bound (14 + 36 + 22) 100 (bind (Changed op kind t ma (read_lvalue ground.p at)) (store_lvalue at)) (lower_set_global g new) (omega arith)
+      subst
+      (λ (k : Evaluation Lvalue). CorrectFor (scene floor scratch) bound 100 (bind k (Change op kind t ma)) (lower_change op kind t (InGlobal g) la))
+      (sym h) (show.comes_to (scene floor scratch) bound 100 (bind (Changed op kind t ma (read_lvalue ground.p at)) (store_lvalue at)) _
+      (lower_change op kind t (InGlobal g) la) (λ f w. change_is op kind t ma at f w ∙ sym (sequences.given at (Change op kind t ma) f w))
+      (show.with_more (scene floor scratch) bound (14 + 36 + 22) 100 (bind (Changed op kind t ma (read_lvalue ground.p at)) (store_lvalue at))
+      (lower_set_global g new) (omega arith)
       (forms.correct_set_global (scene floor scratch) bound (14 + 36) g (Changed op kind t ma (read_lvalue ground.p at)) new
-      (changed op kind t 14 ma (read_lvalue ground.p at) la (lower_global g) floor scratch (ca floor scratch) (forms.correct_global (scene floor scratch) bound g)))))
+      (changed op kind t 14 ma (read_lvalue ground.p at) la (lower_global g) floor scratch (ca floor scratch)
+      (forms.correct_global (scene floor scratch) bound g)))))
   change_correct op kind t m (Element a i) ma la h ca floor scratch =
       let mi = h.0 in
       let mv : Lvalue → Evaluation ℕ = λ at. Changed op kind t ma (read_lvalue ground.p at) in
@@ -336,10 +346,13 @@ module _ (ground : Ground) (held : Held) (bound : Bound)
   after_correct : (up : Bool) (t : CType) (m : Evaluation Lvalue) (x : Place) → PlaceShown m x → Everywhere 100 (bind m (After up t)) (lower_after up t x)
   after_correct up t m (InLocal l) h floor scratch =
       subst (λ (k : Evaluation Lvalue). CorrectFor (scene floor scratch) bound 100 (bind k (After up t)) (lower_after up t (InLocal l))) (sym h.0)
-      (show.comes_to (scene floor scratch) bound 100 (After up t (lvalue.Local l 0)) _ (lower_after up t (InLocal l)) (λ f w. sym (sequences.given (lvalue.Local l 0) (After up t) f w)) (elements.correct_after_local (scene floor scratch) bound up t l h.1 room h.2))
+      (show.comes_to (scene floor scratch) bound 100 (After up t (lvalue.Local l 0)) _ (lower_after up t (InLocal l))
+      (λ f w. sym (sequences.given (lvalue.Local l 0) (After up t) f w))
+      (elements.correct_after_local (scene floor scratch) bound up t l h.1 room h.2))
   after_correct up t m (InGlobal g) h floor scratch =
       subst (λ (k : Evaluation Lvalue). CorrectFor (scene floor scratch) bound 100 (bind k (After up t)) (lower_after up t (InGlobal g))) (sym h)
-      (show.comes_to (scene floor scratch) bound 100 (After up t (lvalue.Global g 0)) _ (lower_after up t (InGlobal g)) (λ f w. sym (sequences.given (lvalue.Global g 0) (After up t) f w)) (elements.correct_after_global (scene floor scratch) bound up t g))
+      (show.comes_to (scene floor scratch) bound 100 (After up t (lvalue.Global g 0)) _ (lower_after up t (InGlobal g))
+      (λ f w. sym (sequences.given (lvalue.Global g 0) (After up t) f w)) (elements.correct_after_global (scene floor scratch) bound up t g))
   after_correct up t m (Element a i) h floor scratch =
       let mi = h.0 in
       subst (λ (k : Evaluation Lvalue). CorrectFor (scene floor scratch) bound 100 (bind k (After up t)) (lower_after up t (Element a i))) (sym h.1)
@@ -363,7 +376,9 @@ module _ (ground : Ground) (held : Held) (bound : Bound)
   parts = map-Form Form Target Expr FormPart Place Part (form_part ground.p.pointers) (place_of ground.p.pointers) (part_of ground.p.pointers)
 
   abbrev tests : Form-F Form Target Expr → Form-F (CType → Bool) Bool Bool
-  tests = map-Form Form Target Expr (CType → Bool) Bool Bool (form_is_well_named ground.p ground.own ground.locals ground.sizes free) (target_is_well_named ground.p ground.own ground.locals ground.sizes free) (is_well_named ground.p ground.own ground.locals ground.sizes free)
+  tests =
+      map-Form Form Target Expr (CType → Bool) Bool Bool (form_is_well_named ground.p ground.own ground.locals ground.sizes free)
+      (target_is_well_named ground.p ground.own ground.locals ground.sizes free) (is_well_named ground.p ground.own ground.locals ground.sizes free)
 
   args_long : (args : List Expr) → length (map (λ (a : Part). a.lower) (map (part_of ground.p.pointers) args)) ≡ length args
   args_long args = length-map (map (part_of ground.p.pointers) args) (λ (a : Part). a.lower) ∙ length-map args (part_of ground.p.pointers)
@@ -382,8 +397,13 @@ module _ (ground : Ground) (held : Held) (bound : Bound)
       let bs = and_cases (is_well_named ground.p ground.own ground.locals ground.sizes free a) (is_well_named ground.p ground.own ground.locals ground.sizes free x) b in
       let ca = h.0 bs.0 in
       let cx = h.1 bs.1 in
-      subst (λ k. CorrectFor (scene floor scratch) bound 100 (bind (value_of ground.p context a) (λ u. bind (value_of ground.p context x) (λ v. value_or_trap (binary_value op (denotation_of ground.p context a).ctype u v)))) (lower_binary false op k (lower_expr ground.p.pointers a) (lower_expr ground.p.pointers x))) (sym ca.1)
-      (binary_correct (scene floor scratch) bound 100 0 0 false (value_of ground.p context a) (value_of ground.p context x) (lower_expr ground.p.pointers a) (lower_expr ground.p.pointers x) (omega arith) (ca.0 floor scratch) (cx.0 floor scratch) op (denotation_of ground.p context a).ctype)
+      subst (λ k. CorrectFor (scene floor scratch) bound 100
+      (bind (value_of ground.p context a)
+      (λ u. bind (value_of ground.p context x) (λ v. value_or_trap (binary_value op (denotation_of ground.p context a).ctype u v))))
+      (lower_binary false op k (lower_expr ground.p.pointers a) (lower_expr ground.p.pointers x))) (sym ca.1)
+      (binary_correct (scene floor scratch) bound 100 0 0 false (value_of ground.p context a) (value_of ground.p context x)
+      (lower_expr ground.p.pointers a) (lower_expr ground.p.pointers x) (omega arith) (ca.0 floor scratch) (cx.0 floor scratch) op
+      (denotation_of ground.p context a).ctype)
   layer (form.Both a x) h t b floor scratch =
       let bs = and_cases (is_well_named ground.p ground.own ground.locals ground.sizes free a) (is_well_named ground.p ground.own ground.locals ground.sizes free x) b in
       control.correct_both (scene floor scratch) bound (value_of ground.p context a) (value_of ground.p context x) (lower_expr ground.p.pointers a) (lower_expr ground.p.pointers x) ((h.0 bs.0).0 floor scratch) ((h.1 bs.1).0 floor scratch)
@@ -393,7 +413,9 @@ module _ (ground : Ground) (held : Held) (bound : Bound)
   layer (form.Choose x y z) h t b floor scratch =
       let bs = and_cases (is_well_named ground.p ground.own ground.locals ground.sizes free x) (is_well_named ground.p ground.own ground.locals ground.sizes free y && is_well_named ground.p ground.own ground.locals ground.sizes free z) b in
       let cs = and_cases (is_well_named ground.p ground.own ground.locals ground.sizes free y) (is_well_named ground.p ground.own ground.locals ground.sizes free z) bs.1 in
-      control.correct_choice (scene floor scratch) bound (value_of ground.p context x) (value_of ground.p context y) (value_of ground.p context z) (lower_expr ground.p.pointers x) (lower_expr ground.p.pointers y) (lower_expr ground.p.pointers z) ((h.0 bs.0).0 floor scratch) ((h.1 cs.0).0 floor scratch) ((h.2 cs.1).0 floor scratch)
+      control.correct_choice (scene floor scratch) bound (value_of ground.p context x) (value_of ground.p context y) (value_of ground.p context z)
+      (lower_expr ground.p.pointers x) (lower_expr ground.p.pointers y) (lower_expr ground.p.pointers z) ((h.0 bs.0).0 floor scratch)
+      ((h.1 cs.0).0 floor scratch) ((h.2 cs.1).0 floor scratch)
   layer (form.Convert a) h t b floor scratch =
       forms.correct_one (scene floor scratch) bound 100 0 1 (converted_tree t) (converted t) (value_of ground.p context a) (lower_expr ground.p.pointers a) (omega arith)
       (operators.converted_same (scene floor scratch) t) (operators.converted_nodes t) ((h b).0 floor scratch)
@@ -405,8 +427,12 @@ module _ (ground : Ground) (held : Held) (bound : Bound)
       change_correct op kind t (lvalue_of ground.p context target) (place_of ground.p.pointers target) (value_of ground.p context a) (lower_expr ground.p.pointers a) (h.0 bs.0) (h.1 bs.1).0 floor scratch
   layer (form.After up target) h t b floor scratch = after_correct up t (lvalue_of ground.p context target) (place_of ground.p.pointers target) (h b) floor scratch
   layer (form.Direct g args) h t b floor scratch =
-      let bs = and_cases (is_callable ground.p g (length args) (is_void t)) (all_of (map (is_well_named ground.p ground.own ground.locals ground.sizes free) args))
-      (sym (ap (λ k. is_callable ground.p g k (is_void t) && all_of (map (is_well_named ground.p ground.own ground.locals ground.sizes free) args)) (length-map args (is_well_named ground.p ground.own ground.locals ground.sizes free))) ∙ b) in
+      let bs = and_cases (is_callable ground.p g (length args) (is_void t))
+      (all_of (map (is_well_named ground.p ground.own ground.locals ground.sizes free) args))
+      (sym (ap (λ k. is_callable ground.p g k (is_void t) &&
+      all_of (map (is_well_named ground.p ground.own ground.locals ground.sizes free) args))
+      (length-map args (is_well_named ground.p ground.own ground.locals ground.sizes free))) ∙
+      b) in
       arguments.correct_call (scene floor scratch) bound context (is_void t) g (map (denotation_of ground.p context) args) (map (λ (a : Part). a.lower) (map (part_of ground.p.pointers) args))
       (subst (λ k. is_callable ground.p g k (is_void t) ≡ true) (sym (args_long args)) bs.0) calls (all_correct args h bs.1 floor scratch)
   layer (form.Through args callee) h t b floor scratch =
@@ -457,7 +483,11 @@ module _ (ground : Ground) (held : Held) (bound : Bound)
 
   form_step : (x : Form-F Form Target Expr) → FormChildren P Q S x → P (roll-Form x)
   form_step x h t b =
-      let named = sym (ap (λ (q : CType → Bool). q t) (fold-roll-Form (CType → Bool) Bool Bool (names_form ground.p ground.own ground.locals ground.sizes free) (names_target ground.p ground.own ground.locals ground.sizes free) (names_layer ground.p ground.own ground.locals ground.sizes free) x)) ∙ b in
+      let named = sym (ap (λ (q : CType → Bool). q t)
+      (fold-roll-Form (CType → Bool) Bool Bool (names_form ground.p ground.own ground.locals ground.sizes free)
+      (names_target ground.p ground.own ground.locals ground.sizes free)
+      (names_layer ground.p ground.own ground.locals ground.sizes free) x)) ∙
+      b in
       let right : Everywhere 100 (form_value ground.p context (denotations x) false t) (lower_form_at ground.p.pointers (parts x) t) = layer x h t named in
       subst (λ (k : FormValue). FormShown k (form_part ground.p.pointers (roll-Form x)) t) (sym (fold-roll-Form FormValue (Evaluation Lvalue) Denotation (form_value ground.p context) target_lvalue expr_denotation x))
       (subst (λ (l : FormPart). FormShown (form_value ground.p context (denotations x)) l t) (sym (fold-roll-Form FormPart Place Part (lower_form ground.p.pointers) place_of_layer (lower_layer ground.p.pointers) x))
@@ -470,7 +500,9 @@ module _ (ground : Ground) (held : Held) (bound : Bound)
   lowered_places = map-Target Form Target Expr FormPart Place Part (form_part ground.p.pointers) (place_of ground.p.pointers) (part_of ground.p.pointers)
 
   abbrev tested_places : Target-F Form Target Expr → Target-F (CType → Bool) Bool Bool
-  tested_places = map-Target Form Target Expr (CType → Bool) Bool Bool (form_is_well_named ground.p ground.own ground.locals ground.sizes free) (target_is_well_named ground.p ground.own ground.locals ground.sizes free) (is_well_named ground.p ground.own ground.locals ground.sizes free)
+  tested_places =
+      map-Target Form Target Expr (CType → Bool) Bool Bool (form_is_well_named ground.p ground.own ground.locals ground.sizes free)
+      (target_is_well_named ground.p ground.own ground.locals ground.sizes free) (is_well_named ground.p ground.own ground.locals ground.sizes free)
 
   target_layer : (x : Target-F Form Target Expr) → TargetChildren P Q S x → names_target ground.p ground.own ground.locals ground.sizes free (tested_places x) ≡ true →
       PlaceShown (target_lvalue (found_places x)) (place_of_layer (lowered_places x))
@@ -496,9 +528,14 @@ module _ (ground : Ground) (held : Held) (bound : Bound)
 
   target_step : (x : Target-F Form Target Expr) → TargetChildren P Q S x → Q (roll-Target x)
   target_step x h b =
-      subst (λ (k : Evaluation Lvalue). PlaceShown k (place_of ground.p.pointers (roll-Target x))) (sym (fold-roll-Target FormValue (Evaluation Lvalue) Denotation (form_value ground.p context) target_lvalue expr_denotation x))
-      (subst (λ (l : Place). PlaceShown (target_lvalue (found_places x)) l) (sym (fold-roll-Target FormPart Place Part (lower_form ground.p.pointers) place_of_layer (lower_layer ground.p.pointers) x))
-      (target_layer x h (sym (fold-roll-Target (CType → Bool) Bool Bool (names_form ground.p ground.own ground.locals ground.sizes free) (names_target ground.p ground.own ground.locals ground.sizes free) (names_layer ground.p ground.own ground.locals ground.sizes free) x) ∙ b)))
+      subst (λ (k : Evaluation Lvalue). PlaceShown k (place_of ground.p.pointers (roll-Target x)))
+      (sym (fold-roll-Target FormValue (Evaluation Lvalue) Denotation (form_value ground.p context) target_lvalue expr_denotation x))
+      (subst (λ (l : Place). PlaceShown (target_lvalue (found_places x)) l)
+      (sym (fold-roll-Target FormPart Place Part (lower_form ground.p.pointers) place_of_layer (lower_layer ground.p.pointers) x))
+      (target_layer x h (sym (fold-roll-Target (CType → Bool) Bool Bool (names_form ground.p ground.own ground.locals ground.sizes free)
+      (names_target ground.p ground.own ground.locals ground.sizes free)
+      (names_layer ground.p ground.own ground.locals ground.sizes free) x) ∙
+      b)))
 
   -- each node is counted
   counted_callee : (o : Option ℕ) (m : Evaluation ℕ) (l : Lowering) → FormCallee o m l → ExprCallee o (counted 1 m) l
@@ -509,7 +546,8 @@ module _ (ground : Ground) (held : Held) (bound : Bound)
   expr_step x h b =
       let meant = fold-roll-Expr FormValue (Evaluation Lvalue) Denotation (form_value ground.p context) target_lvalue expr_denotation x in
       let part = fold-roll-Expr FormPart Place Part (lower_form ground.p.pointers) place_of_layer (lower_layer ground.p.pointers) x in
-      let named = fold-roll-Expr (CType → Bool) Bool Bool (names_form ground.p ground.own ground.locals ground.sizes free) (names_target ground.p ground.own ground.locals ground.sizes free) (names_layer ground.p ground.own ground.locals ground.sizes free) x in
+      let named = fold-roll-Expr (CType → Bool) Bool Bool (names_form ground.p ground.own ground.locals ground.sizes free)
+      (names_target ground.p ground.own ground.locals ground.sizes free) (names_layer ground.p ground.own ground.locals ground.sizes free) x in
       let shown = h x.ctype (sym named ∙ b) in
       let value = form_of ground.p context x.what in
       let form = form_part ground.p.pointers x.what in

@@ -74,7 +74,9 @@ module _ (ground : Ground) (void : Bool) where
   comes_to out credit b m m' xs same h f w s sh = subst (λ (o : Outcome Frame Flow). FlowShown ground void out credit (code ground xs b s) o) (same f w) (h f w s sh)
 
   -- work that was done, and the price that it paid
-  pub spent : (out : Out) (credit before cost work : ℕ) (inner outer : Run) (o : Outcome Frame Flow) → outer ≡ spend cost inner → (k : ℕ) → cost + k ≤ 100 * work + before → FlowShown ground void out (credit + k) inner o → FlowShown ground void out (credit + before) outer (after work o)
+  pub spent : (out : Out) (credit before cost work : ℕ) (inner outer : Run) (o : Outcome Frame Flow) → outer ≡ spend cost inner → (k : ℕ) →
+      cost + k ≤ 100 * work + before → FlowShown ground void out (credit + k) inner o →
+      FlowShown ground void out (credit + before) outer (after work o)
   spent out credit before cost work inner outer o e k le h =
       paid_by out (credit + before) work outer o (more out ((credit + k) + cost) (credit + before + 100 * work) outer o (omega (arith, le)) (priced out (credit + k) cost inner outer o e h))
 
@@ -94,11 +96,13 @@ module _ (ground : Ground) (void : Bool) where
   -- ---- plain statements
 
   -- an expression for its effect
-  pub effect : (out : Out) (flow : Flow) (b : Bound) (credit before : ℕ) (me : Evaluation ℕ) (le : Lowering) → ((s : State) → out flow s ≡ Next s) → (void ≡ true → returned_value flow ≡ 0) → before ≤ credit → (le ground.locals).top ≤ ground.room → CorrectFor (resting ground) b before me le →
+  pub effect : (out : Out) (flow : Flow) (b : Bound) (credit before : ℕ) (me : Evaluation ℕ) (le : Lowering) → ((s : State) → out flow s ≡ Next s) →
+      (void ≡ true → returned_value flow ≡ 0) → before ≤ credit → (le ground.locals).top ≤ ground.room → CorrectFor (resting ground) b before me le →
       FlowCorrect ground void out credit b (bind me (λ v. give flow)) (le ground.locals).code
   effect out flow b credit before me le next none enough fits ce f w s h = by (me f w) (ce ground.locals f w s (omega arith) fits h)
     where
-      by : (o : Outcome Frame ℕ) → Shown (resting ground) b 11 before ground.locals s (le ground.locals).code (le ground.locals).tree o → FlowShown ground void out credit (code ground (le ground.locals).code b s) (and_then o (λ v. give flow))
+      by : (o : Outcome Frame ℕ) → Shown (resting ground) b 11 before ground.locals s (le ground.locals).code (le ground.locals).tree o →
+          FlowShown ground void out credit (code ground (le ground.locals).code b s) (and_then o (λ v. give flow))
       by (Came v f1 w1 work) r = record {
         state = r.state;
         cost = r.cost;
@@ -109,7 +113,9 @@ module _ (ground : Ground) (void : Bool) where
       }
       by (Stopped why w1 work) r = record { cost = r.cost; runs = r.runs; paid = omega (arith, r.paid, enough) }
 
-  pub returns : (j : Jumps) (b : Bound) (me : Evaluation ℕ) (le : Lowering) → void ≡ false → (le ground.locals).top ≤ ground.room → CorrectFor (resting ground) b 0 me le → FlowCorrect ground void (out_of void j) 72 b (bind me (λ v. give (Returns v))) (lower_return ground.locals le j).code
+  pub returns : (j : Jumps) (b : Bound) (me : Evaluation ℕ) (le : Lowering) → void ≡ false → (le ground.locals).top ≤ ground.room →
+      CorrectFor (resting ground) b 0 me le →
+      FlowCorrect ground void (out_of void j) 72 b (bind me (λ v. give (Returns v))) (lower_return ground.locals le j).code
   returns j b me le value fits ce f w s h =
       let e = le ground.locals in
       behind none (out_of void j) b 72 0 ground.locals s e.code (return_with e.tree ∷ []) e.tree (me f w) (λ v. give (Returns v)) (ce ground.locals f w s (omega arith) fits h)
@@ -180,8 +186,11 @@ module _ (ground : Ground) (void : Bool) where
       by false = refl
 
   -- One run after another, which is correct from where the first one goes on.
-  pub then_after : (j : Jumps) (c1 c2 : ℕ) (r : Run) (rest : State → Run) (next : Evaluation Flow) (o : Outcome Frame Flow) → FlowShown ground void (out_of void j) c1 r o →
-      ((f : Frame) (w : World) (s : State) → r.outcome ≡ Next s → Shows (resting ground) f w s → FlowShown ground void (out_of void j) c2 (rest s) (next f w)) → FlowShown ground void (out_of void j) (c2 + c1) (then_do r rest) (and_then o (λ flow. then_on flow next))
+  pub then_after : (j : Jumps) (c1 c2 : ℕ) (r : Run) (rest : State → Run) (next : Evaluation Flow) (o : Outcome Frame Flow) →
+      FlowShown ground void (out_of void j) c1 r o →
+      ((f : Frame) (w : World) (s : State) → r.outcome ≡ Next s → Shows (resting ground) f w s →
+      FlowShown ground void (out_of void j) c2 (rest s) (next f w)) →
+      FlowShown ground void (out_of void j) (c2 + c1) (then_do r rest) (and_then o (λ flow. then_on flow next))
   then_after j c1 c2 r rest next (Came Goes f w work) h k =
       spent (out_of void j) c2 c1 h.cost work (rest h.state) (then_do r rest) (next f w) (ap (λ (q : Run). then_do q rest) h.runs) 0 (omega (arith, h.paid))
       (more (out_of void j) c2 (c2 + 0) (rest h.state) (next f w) (omega arith) (k f w h.state (ap (λ (q : Run). q.outcome) h.runs) h.shows))
@@ -211,7 +220,8 @@ module _ (ground : Ground) (void : Bool) where
           IsReturn (Returns v) = Unit {0}
   then_after j c1 c2 r rest next (Stopped why w work) h k = record { cost = h.cost + 0; runs = λ ne. ap (λ (q : Run). then_do q rest) (h.runs ne); paid = omega (arith, h.paid) }
 
-  pub then_next : (j : Jumps) (b : Bound) (c1 c2 : ℕ) (s : State) (xs ys : List Stm) (next : Evaluation Flow) (o : Outcome Frame Flow) → FlowShown ground void (out_of void j) c1 (code ground xs b s) o → FlowCorrect ground void (out_of void j) c2 b next ys →
+  pub then_next : (j : Jumps) (b : Bound) (c1 c2 : ℕ) (s : State) (xs ys : List Stm) (next : Evaluation Flow) (o : Outcome Frame Flow) →
+      FlowShown ground void (out_of void j) c1 (code ground xs b s) o → FlowCorrect ground void (out_of void j) c2 b next ys →
       FlowShown ground void (out_of void j) (c2 + c1) (code ground (xs ++ ys) b s) (and_then o (λ flow. then_on flow next))
   then_next j b c1 c2 s xs ys next o h k =
       subst (λ (r : Run). FlowShown ground void (out_of void j) (c2 + c1) r (and_then o (λ flow. then_on flow next))) (sym (run.joined ground.setting ground.frame xs ys b s))
@@ -236,9 +246,33 @@ module _ (ground : Ground) (void : Bool) where
       left false v s1 = refl
 
       by : (o : Outcome Frame Flow) → FlowShown ground void (out_of void (in_body j)) 0 (code ground xs b s) o → FlowShown ground void (turn_out void j) 0 (code ground (enclosed xs ∷ []) b s) o
-      by (Came Goes f1 w1 work) r = record { state = r.state; cost = r.cost; runs = one_meaning ground.setting ground.frame (stm.Block xs) b s ∙ ap (λ (q : Run). ran q.cost (block_end q.outcome)) r.runs; shows = r.shows; nothing = r.nothing; paid = r.paid }
-      by (Came Breaks f1 w1 work) r = record { state = r.state; cost = r.cost; runs = one_meaning ground.setting ground.frame (stm.Block xs) b s ∙ ap (λ (q : Run). ran q.cost (block_end q.outcome)) r.runs; shows = r.shows; nothing = r.nothing; paid = r.paid }
-      by (Came Continues f1 w1 work) r = record { state = r.state; cost = r.cost; runs = one_meaning ground.setting ground.frame (stm.Block xs) b s ∙ ap (λ (q : Run). ran q.cost (block_end q.outcome)) r.runs; shows = r.shows; nothing = r.nothing; paid = r.paid }
+      by (Came Goes f1 w1 work) r =
+          record {
+            state = r.state;
+            cost = r.cost;
+            runs = one_meaning ground.setting ground.frame (stm.Block xs) b s ∙ ap (λ (q : Run). ran q.cost (block_end q.outcome)) r.runs;
+            shows = r.shows;
+            nothing = r.nothing;
+            paid = r.paid;
+          }
+      by (Came Breaks f1 w1 work) r =
+          record {
+            state = r.state;
+            cost = r.cost;
+            runs = one_meaning ground.setting ground.frame (stm.Block xs) b s ∙ ap (λ (q : Run). ran q.cost (block_end q.outcome)) r.runs;
+            shows = r.shows;
+            nothing = r.nothing;
+            paid = r.paid;
+          }
+      by (Came Continues f1 w1 work) r =
+          record {
+            state = r.state;
+            cost = r.cost;
+            runs = one_meaning ground.setting ground.frame (stm.Block xs) b s ∙ ap (λ (q : Run). ran q.cost (block_end q.outcome)) r.runs;
+            shows = r.shows;
+            nothing = r.nothing;
+            paid = r.paid;
+          }
       by (Came (Returns v) f1 w1 work) r = record {
         state = r.state;
         cost = r.cost;
@@ -254,19 +288,30 @@ module _ (ground : Ground) (void : Bool) where
       FlowCorrect ground void (turn_out void j) (c2 + c1) b (bind m (λ flow. through flow next)) (xs ++ ys)
   in_two_parts j b c1 c2 m next xs ys h k f w s sh = by (m f w) (h f w s sh)
     where
-      going : (f1 : Frame) (w1 : World) (work cost : ℕ) (s1 : State) → code ground xs b s ≡ ran cost (Next s1) → cost ≤ 100 * work + c1 → Shows (resting ground) f1 w1 s1 → FlowShown ground void (turn_out void j) (c2 + c1) (code ground (xs ++ ys) b s) (after work (next f1 w1))
+      going : (f1 : Frame) (w1 : World) (work cost : ℕ) (s1 : State) → code ground xs b s ≡ ran cost (Next s1) → cost ≤ 100 * work + c1 →
+          Shows (resting ground) f1 w1 s1 → FlowShown ground void (turn_out void j) (c2 + c1) (code ground (xs ++ ys) b s) (after work (next f1 w1))
       going f1 w1 work cost s1 e le sh1 =
           spent (turn_out void j) c2 c1 cost work (code ground ys b s1) (code ground (xs ++ ys) b s) (next f1 w1) (run.joined ground.setting ground.frame xs ys b s ∙ ap (λ r. then_do r (code ground ys b)) e) 0 (omega (arith, le))
           (more (turn_out void j) c2 (c2 + 0) (code ground ys b s1) (next f1 w1) (omega arith) (k f1 w1 s1 sh1))
 
-      left : (z : Bool) (cost v : ℕ) (s1 : State) → then_do (ran cost (cond z (Leaves (suc j.around) s1) (Ends (Returned (Some v) s1.world)))) (code ground ys b) ≡ ran (cost + 0) (cond z (Leaves (suc j.around) s1) (Ends (Returned (Some v) s1.world)))
+      left : (z : Bool) (cost v : ℕ) (s1 : State) →
+          then_do (ran cost (cond z (Leaves (suc j.around) s1) (Ends (Returned (Some v) s1.world)))) (code ground ys b) ≡
+          ran (cost + 0) (cond z (Leaves (suc j.around) s1) (Ends (Returned (Some v) s1.world)))
       left true cost v s1 = refl
       left false cost v s1 = refl
 
       by : (o : Outcome Frame Flow) → FlowShown ground void (turn_out void j) c1 (code ground xs b s) o → FlowShown ground void (turn_out void j) (c2 + c1) (code ground (xs ++ ys) b s) (and_then o (λ flow. through flow next))
       by (Came Goes f1 w1 work) r = going f1 w1 work r.cost r.state r.runs r.paid r.shows
       by (Came Continues f1 w1 work) r = going f1 w1 work r.cost r.state r.runs r.paid r.shows
-      by (Came Breaks f1 w1 work) r = record { state = r.state; cost = r.cost + 0; runs = run.joined ground.setting ground.frame xs ys b s ∙ ap (λ q. then_do q (code ground ys b)) r.runs; shows = r.shows; nothing = r.nothing; paid = omega (arith, r.paid) }
+      by (Came Breaks f1 w1 work) r =
+          record {
+            state = r.state;
+            cost = r.cost + 0;
+            runs = run.joined ground.setting ground.frame xs ys b s ∙ ap (λ q. then_do q (code ground ys b)) r.runs;
+            shows = r.shows;
+            nothing = r.nothing;
+            paid = omega (arith, r.paid);
+          }
       by (Came (Returns v) f1 w1 work) r = record {
         state = r.state;
         cost = r.cost + 0;

@@ -93,7 +93,8 @@ module _ (scene : Scene) where
       read_is (bound_value scene.p w.bindings scene.own (slice_get scene.p.functions scene.own) g) (word_at w.globals g 0) ∙
       ap (λ k. global_read scene.p w k g 0) (sym h.function)
 
-  pub shows_local : (l v x : ℕ) (f : Frame) (w : World) (s : State) → l < scene.locals → scene.locals ≤ scene.room → IsScalar scene.sizes scene.held l → x ≡ v → Shows scene f w s → Shows scene (record f { locals = with_word f.locals l 0 v }) w (with_temp s l x)
+  pub shows_local : (l v x : ℕ) (f : Frame) (w : World) (s : State) → l < scene.locals → scene.locals ≤ scene.room →
+      IsScalar scene.sizes scene.held l → x ≡ v → Shows scene f w s → Shows scene (record f { locals = with_word f.locals l 0 v }) w (with_temp s l x)
   shows_local l v x f w s lt le sc e h = record {
     around = h.around;
     in_arrays = record {
@@ -218,7 +219,8 @@ module _ (scene : Scene) (bound : Bound) where
       Shown scene bound 11 (22 + (3 * nodes x + 3 * nodes y)) n s (divide n o (cond turned y x) (cond turned x y) ∷ []) (temp n) (value_or_trap (cond turned (op b a) (op a b)) f w)
   turned_either_way true n o a b x y f w s op is le lt h ea eb =
       subst (λ q. Shown scene bound 11 (22 + (3 * nodes x + 3 * nodes y)) n s (divide n o y x ∷ []) (temp n) (value_or_trap q f w)) (sym (is b a))
-      (show.more_credit scene bound 11 11 (22 + (3 * nodes y + 3 * nodes x)) (22 + (3 * nodes x + 3 * nodes y)) n n s (divide n o y x ∷ []) (temp n) (value_or_trap (cond (eqb a 0) None (Some (ir_tree.divide o b a))) f w) (omega arith) (omega arith) (omega arith)
+      (show.more_credit scene bound 11 11 (22 + (3 * nodes y + 3 * nodes x)) (22 + (3 * nodes x + 3 * nodes y)) n n s (divide n o y x ∷ []) (temp n)
+      (value_or_trap (cond (eqb a 0) None (Some (ir_tree.divide o b a))) f w) (omega arith) (omega arith) (omega arith)
       (divided n o b a y x f w s (eqb a 0) le lt h eb ea refl))
   turned_either_way false n o a b x y f w s op is le lt h ea eb =
       subst (λ q. Shown scene bound 11 (22 + (3 * nodes x + 3 * nodes y)) n s (divide n o x y ∷ []) (temp n) (value_or_trap q f w)) (sym (is a b))

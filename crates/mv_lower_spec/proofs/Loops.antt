@@ -127,8 +127,11 @@ module _ (ground : Ground) (void : Bool) where
       (flows.in_two_parts ground void j b 0 (8 + 0) mb (test_turn me) (enclosed body ∷ []) (test_and_body ground.locals le []) (flows.in_block ground void j b mb body cb)
       (flows.tested ground void (turn_out void j) b 8 0 me (give Goes) (give Breaks) le [] (break 0 ∷ []) fits ce (goes_on j b) (leaves_loop j b)))
 
-  pub for_correct : (j : Jumps) (b : Bound) (me ms : Evaluation ℕ) (mb : Evaluation Flow) (le ls : Lowering) (body : List Stm) → (le ground.locals).top ≤ ground.room → (ls ground.locals).top ≤ ground.room → CorrectFor (resting ground) b 14 me le → CorrectFor (resting ground) b 14 ms ls →
-      FlowCorrect ground void (out_of void (in_body j)) 0 b mb body → FlowCorrect ground void (turn_out void j) 64 b (for_turn me mb ms) (test_and_body ground.locals le (enclosed body ∷ []) ++ (ls ground.locals).code)
+  pub for_correct : (j : Jumps) (b : Bound) (me ms : Evaluation ℕ) (mb : Evaluation Flow) (le ls : Lowering) (body : List Stm) →
+      (le ground.locals).top ≤ ground.room → (ls ground.locals).top ≤ ground.room → CorrectFor (resting ground) b 14 me le →
+      CorrectFor (resting ground) b 14 ms ls → FlowCorrect ground void (out_of void (in_body j)) 0 b mb body →
+      FlowCorrect ground void (turn_out void j) 64 b (for_turn me mb ms)
+      (test_and_body ground.locals le (enclosed body ∷ []) ++ (ls ground.locals).code)
   for_correct j b me ms mb le ls body fits fits_step ce cs cb =
       raise (turn_out void j) (14 + (8 + 14)) 64 b (for_turn me mb ms) (test_and_body ground.locals le (enclosed body ∷ []) ++ (ls ground.locals).code) (omega arith)
       (flows.in_two_parts ground void j b (8 + 14) 14 (while_turn me mb) (bind ms (λ _. give Goes)) (test_and_body ground.locals le (enclosed body ∷ [])) (ls ground.locals).code

@@ -103,7 +103,9 @@ module _ (scene : Scene) (bound : Bound) where
   runs_read t a i s = one_meaning scene.setting scene.frame (stm.Read t a i) bound s
 
   pub runs_write : (a : Array) (i v : Tree) (s : State) →
-      Runs scene bound (write a i v ∷ []) s (cond (ltb (val scene i s) (length (elements a s))) (Next (with_elements a s (slice_set (elements a s) (val scene i s) (val scene v s)))) (Ends (outside a (val scene i s) s.world))) (8 + 3 * (nodes i + nodes v))
+      Runs scene bound (write a i v ∷ []) s
+      (cond (ltb (val scene i s) (length (elements a s))) (Next (with_elements a s (slice_set (elements a s) (val scene i s) (val scene v s))))
+      (Ends (outside a (val scene i s) s.world))) (8 + 3 * (nodes i + nodes v))
   runs_write a i v s = one_meaning scene.setting scene.frame (stm.Write a i v) bound s
 
   pub runs_call : (t : Option ℕ) (f : Callee) (args : List Tree) (s : State) →

@@ -129,7 +129,8 @@ module _ (scene : Scene) (bound : Bound) where
 
   -- ---- a value in a temporary: in the free one itself, or in one above it
 
-  pub put_away : (credit n at : ℕ) (s : State) (l : Lowered) (o : Outcome Frame ℕ) → n ≤ at → scene.floor ≤ at → at < scene.room → Shown scene bound 11 credit n s l.code l.tree o → Shown scene bound 0 credit n s (l.code ++ set at l.tree ∷ []) (temp at) o
+  pub put_away : (credit n at : ℕ) (s : State) (l : Lowered) (o : Outcome Frame ℕ) → n ≤ at → scene.floor ≤ at → at < scene.room →
+      Shown scene bound 11 credit n s l.code l.tree o → Shown scene bound 0 credit n s (l.code ++ set at l.tree ∷ []) (temp at) o
   put_away credit n at s l (Came v f w work) up le lt r =
       let x = val scene l.tree r.state in
       record {
@@ -175,16 +176,20 @@ module _ (scene : Scene) (bound : Bound) where
       let low = is_low (lb (n + 1)).tree in
       let la_fits = kept_top scene keep n (la n) (omega (arith, lt)) in
       let lb_fits = kept_top scene low (n + 1) (lb (n + 1)) (omega (arith, lt)) in
-      follow due total (kb + credit) 0 ka n n s (first la lb n).code ((second lb n).code ++ rest) t (first la lb n).tree (ma f w) (λ x. bind mb (λ y. next x y)) (omega arith) enough
-      (kept_shown ka keep n s (la n) (ma f w) le (omega (arith, lt)) (ca n f w s le la_fits h))
-      (λ x f1 w1 work1 r1.
-      follow due (kb + credit + (3 * nodes (first la lb n).tree + 0)) (credit + 3 * nodes (first la lb n).tree) 0 kb n (n + 1) r1.state (second lb n).code rest t (second lb n).tree (mb f1 w1) (λ y. next x y) (omega arith) (omega arith)
-      (kept_shown kb low (n + 1) r1.state (lb (n + 1)) (mb f1 w1) (omega (arith, le)) (omega (arith, lt)) (cb (n + 1) f1 w1 r1.state (omega (arith, le)) lb_fits r1.shows))
-      (λ y f2 w2 work2 r2.
-      more_credit due due (credit + (3 * nodes (first la lb n).tree + 3 * nodes (second lb n).tree)) (credit + 3 * nodes (first la lb n).tree + (3 * nodes (second lb n).tree + 0)) n n r2.state rest t (next x y f2 w2) (omega arith) (omega arith) (omega arith)
+      follow due total (kb + credit) 0 ka n n s (first la lb n).code ((second lb n).code ++ rest) t (first la lb n).tree (ma f w)
+      (λ x. bind mb (λ y. next x y)) (omega arith) enough (kept_shown ka keep n s (la n) (ma f w) le (omega (arith, lt)) (ca n f w s le la_fits h))
+      (λ x f1 w1 work1 r1. follow due (kb + credit + (3 * nodes (first la lb n).tree + 0)) (credit + 3 * nodes (first la lb n).tree) 0 kb n (n + 1)
+      r1.state (second lb n).code rest t (second lb n).tree (mb f1 w1) (λ y. next x y) (omega arith) (omega arith)
+      (kept_shown kb low (n + 1) r1.state (lb (n + 1)) (mb f1 w1) (omega (arith, le)) (omega (arith, lt))
+      (cb (n + 1) f1 w1 r1.state (omega (arith, le)) lb_fits r1.shows))
+      (λ y f2 w2 work2 r2. more_credit due due (credit + (3 * nodes (first la lb n).tree + 3 * nodes (second lb n).tree))
+      (credit + 3 * nodes (first la lb n).tree + (3 * nodes (second lb n).tree + 0)) n n r2.state rest t (next x y f2 w2) (omega arith)
+      (omega arith) (omega arith)
       (k x y f2 w2 r2.state r2.shows
-      (lasts scene keep n (la n) r1.state r2.state le (λ e. run.runs_nowhere scene bound (second lb n).code r1.state r2.state r2.cost (empty (second lb n).code (is_low (la n).tree) e) r2.runs) r2.kept ∙ r1.value)
-      r2.value)))
+      (lasts scene keep n (la n) r1.state r2.state le
+      (λ e. run.runs_nowhere scene bound (second lb n).code r1.state r2.state r2.cost
+      (empty (second lb n).code (is_low (la n).tree) e) r2.runs) r2.kept ∙
+      r1.value) r2.value)))
 
   -- ---- work that pays
 

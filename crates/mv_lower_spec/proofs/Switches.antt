@@ -117,11 +117,18 @@ passed v (l ∷ ls) =
     by : Passed (tried_labels v (lowered_labels ls)) (arm_place (hits v) 0 ls) (length ls) (bare_arms ls) →
         (z : Bool) → x.found ≡ z → Passed (both_tried x (tried_labels v (lowered_labels ls))) (cond x.found 0 (arm_place (hits v) 1 ls)) (suc (length ls)) (bare_of l.labels + bare_arms ls)
     by rest true e =
-        subst (λ z. Passed (cond z x (record { labels = x.labels + (tried_labels v (lowered_labels ls)).labels; found = (tried_labels v (lowered_labels ls)).found })) (cond z 0 (arm_place (hits v) 1 ls)) (suc (length ls)) (bare_of l.labels + bare_arms ls)) (sym e)
+        subst (λ z. Passed (cond z x
+        (record { labels = x.labels + (tried_labels v (lowered_labels ls)).labels; found = (tried_labels v (lowered_labels ls)).found }))
+        (cond z 0 (arm_place (hits v) 1 ls)) (suc (length ls)) (bare_of l.labels + bare_arms ls)) (sym e)
         (record { to_arm = omega arith; to_end = λ q. from_falsity (sym q ∙ e) })
     by rest false e =
-        subst (λ z. Passed (cond z x (record { labels = x.labels + (tried_labels v (lowered_labels ls)).labels; found = (tried_labels v (lowered_labels ls)).found })) (cond z 0 (arm_place (hits v) 1 ls)) (suc (length ls)) (bare_of l.labels + bare_arms ls)) (sym e)
-        (record { to_arm = omega (arith, own l.labels, place_above (hits v) 0 ls, rest.to_arm); to_end = λ q. (let r = rest.to_end q in omega (arith, own l.labels, r)) })
+        subst (λ z. Passed (cond z x
+        (record { labels = x.labels + (tried_labels v (lowered_labels ls)).labels; found = (tried_labels v (lowered_labels ls)).found }))
+        (cond z 0 (arm_place (hits v) 1 ls)) (suc (length ls)) (bare_of l.labels + bare_arms ls)) (sym e)
+        (record {
+          to_arm = omega (arith, own l.labels, place_above (hits v) 0 ls, rest.to_arm);
+          to_end = λ q. (let r = rest.to_end q in omega (arith, own l.labels, r));
+        })
 
 -- ---- states
 
@@ -195,7 +202,9 @@ module _ (ground : Ground) (void : Bool) where
       split true = refl
       split false = found t.found
         where
-          found : (q : Bool) → cond q (ran (17 * (1 + t.labels) + 19) (Leaves 0 (with_temp s n i))) (spend (17 * (1 + t.labels)) (code ground rest b s)) ≡ spend 17 (cond q (ran (17 * t.labels + 19) (Leaves 0 (with_temp s n i))) (spend (17 * t.labels) (code ground rest b s)))
+          found : (q : Bool) → cond q (ran (17 * (1 + t.labels) + 19) (Leaves 0 (with_temp s n i)))
+              (spend (17 * (1 + t.labels)) (code ground rest b s)) ≡
+              spend 17 (cond q (ran (17 * t.labels + 19) (Leaves 0 (with_temp s n i))) (spend (17 * t.labels) (code ground rest b s)))
           found true = ap (λ k. ran k (Leaves 0 (with_temp s n i))) (omega arith)
           found false = ap (λ k. ran k (code ground rest b s).outcome) (omega arith)
 
@@ -218,7 +227,9 @@ module _ (ground : Ground) (void : Bool) where
       at : ℕ
       at = arm_place (hits v) (suc i) arms
 
-      inner : (q : Bool) → spend (17 * x.labels) (cond q (ran (17 * y.labels + 19) (Leaves 0 (with_temp s n at))) (spend (17 * y.labels) (code ground rest b s))) ≡ cond q (ran (17 * (x.labels + y.labels) + 19) (Leaves 0 (with_temp s n at))) (spend (17 * (x.labels + y.labels)) (code ground rest b s))
+      inner : (q : Bool) → spend (17 * x.labels)
+          (cond q (ran (17 * y.labels + 19) (Leaves 0 (with_temp s n at))) (spend (17 * y.labels) (code ground rest b s))) ≡
+          cond q (ran (17 * (x.labels + y.labels) + 19) (Leaves 0 (with_temp s n at))) (spend (17 * (x.labels + y.labels)) (code ground rest b s))
       inner true = ap (λ k. ran k (Leaves 0 (with_temp s n at))) (omega arith)
       inner false = ap (λ k. ran k (code ground rest b s).outcome) (omega arith)
 
@@ -250,7 +261,9 @@ module _ (ground : Ground) (void : Bool) where
   ArmsCorrect b j (d ∷ ds) (l ∷ ls) = (l.labels ≡ d.labels) × (l.other ≡ d.other) × Pays b j (in_order d.body) (l.body (in_arm j)).code × ArmsCorrect b j ds ls
 
   -- the block of a `switch`
-  closed : (j : Jumps) (credit : ℕ) (b : Bound) (xs : List Stm) (s : State) (o : Outcome Frame Flow) → FlowShown ground void (out_in j) credit (code ground xs b s) o → FlowShown ground void (out_of void j) credit (code ground (enclosed xs ∷ []) b s) (and_then o after_switch)
+  closed : (j : Jumps) (credit : ℕ) (b : Bound) (xs : List Stm) (s : State) (o : Outcome Frame Flow) →
+      FlowShown ground void (out_in j) credit (code ground xs b s) o →
+      FlowShown ground void (out_of void j) credit (code ground (enclosed xs ∷ []) b s) (and_then o after_switch)
   closed j credit b xs s o h = by o h
     where
       ends : {r : Run} → code ground xs b s ≡ r → code ground (enclosed xs ∷ []) b s ≡ ran r.cost (block_end r.outcome)
@@ -307,7 +320,9 @@ module _ (ground : Ground) (void : Bool) where
     }
 
     -- an arm that is entered
-    entered : (j : Jumps) (b : Bound) (i : ℕ) (xs : List Stm) (s : State) (o : Outcome Frame Flow) → slice_index s.temps ground.locals ≤ i → FlowShown ground void (out_in j) 0 (spend (entry xs) (code ground xs b s)) o → FlowShown ground void (out_in j) 0 (code ground (code_of_arm i xs) b s) o
+    entered : (j : Jumps) (b : Bound) (i : ℕ) (xs : List Stm) (s : State) (o : Outcome Frame Flow) → slice_index s.temps ground.locals ≤ i →
+        FlowShown ground void (out_in j) 0 (spend (entry xs) (code ground xs b s)) o →
+        FlowShown ground void (out_in j) 0 (code ground (code_of_arm i xs) b s) o
     entered j b i [] s o le h = flows.refunded ground void (out_in j) 0 0 (code ground [] b s) o h
     entered j b i (x ∷ xs) s o le h =
         subst (λ (r : Run). FlowShown ground void (out_in j) 0 r o) (sym is)
@@ -381,7 +396,8 @@ module _ (ground : Ground) (void : Bool) where
         (λ f1 w1 s1 e sh1. falls j b ds ls (suc i) f1 w1 s1 h.3 sh1 (goes_to_next b i xs s s1 le e))))
 
     -- into the arm that stands so many arms behind, or behind all
-    enters : (j : Jumps) (b : Bound) (ds : List ArmDenotation) (ls : List LoweredArm) (i more : ℕ) (f : Frame) (w : World) (s : State) → ArmsCorrect b j ds ls → Shows (resting ground) f w s → slice_index s.temps ground.locals ≡ i + more → more ≤ length ls →
+    enters : (j : Jumps) (b : Bound) (ds : List ArmDenotation) (ls : List LoweredArm) (i more : ℕ) (f : Frame) (w : World) (s : State) →
+        ArmsCorrect b j ds ls → Shows (resting ground) f w s → slice_index s.temps ground.locals ≡ i + more → more ≤ length ls →
         FlowShown ground void (out_in j) (17 * more) (code ground (all_code i ls j) b s) (in_order (bodies_of (drop more ds)) f w)
     enters j b ds ls i zero f w s h sh e le = falls j b ds ls i f w s h sh (omega (arith, e))
     enters j b ds [] i (suc more) f w s h sh e le = absurd (omega (arith, le))
@@ -432,8 +448,11 @@ module _ (ground : Ground) (void : Bool) where
   labels_are b j (d ∷ ds) (l ∷ ls) h = ap (λ xs. xs ++ lowered_labels ls) h.0 ∙ ap (λ xs. d.labels ++ xs) (labels_are b j ds ls h.3)
 
   -- from the tests to the arm
-  arrives : ground.locals < ground.room → (j : Jumps) (b : Bound) (ds : List ArmDenotation) (ls : List LoweredArm) (v : ℕ) (f : Frame) (w : World) (s : State) → ArmsCorrect b j ds ls → bare_arms ls ≤ 2 → Shows (resting ground) f w s → slice_index s.temps ground.locals ≡ v →
-      FlowShown ground void (out_of void j) 53 (code ground (enclosed (enclosed (all_tests ground.locals ls) ∷ arms_code ground.locals 0 ls j) ∷ []) b s) (switch_flow v ds f w)
+  arrives : ground.locals < ground.room →
+      (j : Jumps) (b : Bound) (ds : List ArmDenotation) (ls : List LoweredArm) (v : ℕ) (f : Frame) (w : World) (s : State) → ArmsCorrect b j ds ls →
+      bare_arms ls ≤ 2 → Shows (resting ground) f w s → slice_index s.temps ground.locals ≡ v →
+      FlowShown ground void (out_of void j) 53
+      (code ground (enclosed (enclosed (all_tests ground.locals ls) ∷ arms_code ground.locals 0 ls j) ∷ []) b s) (switch_flow v ds f w)
   arrives there j b ds ls v f w s h bare sh e =
       subst (λ (xs : List ℕ). FlowShown ground void (out_of void j) 53 (code ground (enclosed whole ∷ []) b s) (arrived (tried_labels v xs))) (labels_are b j ds ls h) (by (tried_labels v (lowered_labels ls)).found refl)
     where
@@ -455,8 +474,11 @@ module _ (ground : Ground) (void : Bool) where
       way : Passed t (arm_place (hits v) 0 ls) (length ls) (bare_arms ls)
       way = passed v ls
 
-      goes_in : (pick : ArmDenotation → Bool) (lowered : LoweredArm → Bool) (cost : ℕ) → picks pick lowered ds ls → code ground (enclosed (all_tests ground.locals ls) ∷ []) b s ≡ ran cost (Next (with_temp s ground.locals (arm_place lowered 0 ls))) →
-          17 * arm_place lowered 0 ls + cost ≤ 53 + 100 * t.labels → FlowShown ground void (out_of void j) 53 (code ground (enclosed whole ∷ []) b s) (after t.labels (and_then (in_order (bodies_from pick ds) f w) after_switch))
+      goes_in : (pick : ArmDenotation → Bool) (lowered : LoweredArm → Bool) (cost : ℕ) → picks pick lowered ds ls →
+          code ground (enclosed (all_tests ground.locals ls) ∷ []) b s ≡ ran cost (Next (with_temp s ground.locals (arm_place lowered 0 ls))) →
+          17 * arm_place lowered 0 ls + cost ≤ 53 + 100 * t.labels →
+          FlowShown ground void (out_of void j) 53 (code ground (enclosed whole ∷ []) b s)
+          (after t.labels (and_then (in_order (bodies_from pick ds) f w) after_switch))
       goes_in pick lowered cost picked r le =
           let place = arm_place lowered 0 ls in
           let s1 = with_temp s ground.locals place in
@@ -475,15 +497,21 @@ module _ (ground : Ground) (void : Bool) where
 
       by : (z : Bool) → t.found ≡ z → FlowShown ground void (out_of void j) 53 (code ground (enclosed whole ∷ []) b s) (arrived t)
       by true q =
-          subst (λ z. FlowShown ground void (out_of void j) 53 (code ground (enclosed whole ∷ []) b s) (after t.labels (and_then (in_order (cond z (bodies_from (λ a. (tried_labels v a.labels).found) ds) (bodies_from (λ a. a.other) ds)) f w) after_switch))) (sym q)
-          (goes_in (λ a. (tried_labels v a.labels).found) (hits v) (17 * t.labels + 19) (hits_picked b j v ds ls h)
-          (enclosed_tests (tests ∙ ap (λ z. cond z (ran (17 * t.labels + 19) (Leaves 0 (with_temp s ground.locals (arm_place (hits v) 0 ls)))) (spend (17 * t.labels) (code ground (set ground.locals (number last) ∷ []) b s))) q))
+          subst (λ z. FlowShown ground void (out_of void j) 53 (code ground (enclosed whole ∷ []) b s)
+          (after t.labels (and_then
+          (in_order (cond z (bodies_from (λ a. (tried_labels v a.labels).found) ds) (bodies_from (λ a. a.other) ds)) f w) after_switch)))
+          (sym q) (goes_in (λ a. (tried_labels v a.labels).found) (hits v) (17 * t.labels + 19) (hits_picked b j v ds ls h)
+          (enclosed_tests (tests ∙ ap (λ z. cond z (ran (17 * t.labels + 19) (Leaves 0 (with_temp s ground.locals (arm_place (hits v) 0 ls))))
+          (spend (17 * t.labels) (code ground (set ground.locals (number last) ∷ []) b s))) q))
           (omega (arith, way.to_arm, bare)))
       by false q =
           let all = way.to_end q in
-          subst (λ z. FlowShown ground void (out_of void j) 53 (code ground (enclosed whole ∷ []) b s) (after t.labels (and_then (in_order (cond z (bodies_from (λ a. (tried_labels v a.labels).found) ds) (bodies_from (λ a. a.other) ds)) f w) after_switch))) (sym q)
-          (goes_in (λ a. a.other) (λ a. a.other) (17 * t.labels + 11) (others_picked b j ds ls h)
-          (enclosed_tests (tests ∙ ap (λ z. cond z (ran (17 * t.labels + 19) (Leaves 0 (with_temp s ground.locals (arm_place (hits v) 0 ls)))) (spend (17 * t.labels) (code ground (set ground.locals (number last) ∷ []) b s))) q ∙
+          subst (λ z. FlowShown ground void (out_of void j) 53 (code ground (enclosed whole ∷ []) b s)
+          (after t.labels (and_then
+          (in_order (cond z (bodies_from (λ a. (tried_labels v a.labels).found) ds) (bodies_from (λ a. a.other) ds)) f w) after_switch)))
+          (sym q) (goes_in (λ a. a.other) (λ a. a.other) (17 * t.labels + 11) (others_picked b j ds ls h)
+          (enclosed_tests (tests ∙ ap (λ z. cond z (ran (17 * t.labels + 19) (Leaves 0 (with_temp s ground.locals (arm_place (hits v) 0 ls))))
+          (spend (17 * t.labels) (code ground (set ground.locals (number last) ∷ []) b s))) q ∙
           ap (λ r. spend (17 * t.labels) r) (placed b ground.locals last s)))
           (omega (arith, all, place_within (λ a. a.other) ls, bare)))
 

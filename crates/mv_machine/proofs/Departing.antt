@@ -1,5 +1,5 @@
 -- From where an instruction departs: from nowhere where it ends the run, calls the environment or goes on behind itself.
-use Rattle.std.proofs.Common.{ℕ, zero, suc, Bool, true, false, not, ◌&&◌, if◌then◌else◌, cond, nat_eq, nat_le, ◌≡◌, ◌≤◌, ◌+◌, add-one, List, [], ◌∷◌, ◌++◌, length, Option, Some, None, refl, sym, ap, ap₂, ◌∙◌, subst, arith}
+use Rattle.std.proofs.Common.{ℕ, zero, suc, Bool, true, false, not, ◌&&◌, if◌then◌else◌, cond, nat_le, ◌≡◌, ◌≤◌, ◌+◌, add-one, List, [], ◌++◌, length, Option, Some, None, refl, sym, ap, ap₂, ◌∙◌, subst, arith}
 use Rattle.std.proofs.lemmas.Bool.{eq-eqb}
 use Rattle.mv_num.specs.Words.{add}
 use Rattle.mv_bindings.specs.declared.binding.Event.{Event}

@@ -44,7 +44,9 @@ read left left' None t = (
 
 -- ---- one move
 
-pub moves_telling : (f : State → State) (x y : Seen) (stop : Stop) (Told : List Event → Type 0) (news : List Event) → y.left ≡ x.left → y.written ≡ x.written → Told news → ((input : List (Option ℕ)) (output : List ℕ) (log : List Event) → f (shown x Going input output log) ≡ shown y stop input output (log ++ news)) → Moves f x y stop Told
+pub moves_telling : (f : State → State) (x y : Seen) (stop : Stop) (Told : List Event → Type 0) (news : List Event) → y.left ≡ x.left
+    → y.written ≡ x.written → Told news → ((input : List (Option ℕ)) (output : List ℕ) (log : List Event)
+    → f (shown x Going input output log) ≡ shown y stop input output (log ++ news)) → Moves f x y stop Told
 moves_telling f x y stop Told news l w told e = (
   [],
   news,
@@ -58,11 +60,15 @@ moves_telling f x y stop Told news l w told e = (
   ),
 )
 
-pub moves_quietly : (f : State → State) (x y : Seen) (stop : Stop) (Told : List Event → Type 0) → y.left ≡ x.left → y.written ≡ x.written → Told [] → ((input : List (Option ℕ)) (output : List ℕ) (log : List Event) → f (shown x Going input output log) ≡ shown y stop input output log) → Moves f x y stop Told
+pub moves_quietly : (f : State → State) (x y : Seen) (stop : Stop) (Told : List Event → Type 0) → y.left ≡ x.left → y.written ≡ x.written → Told []
+    → ((input : List (Option ℕ)) (output : List ℕ) (log : List Event) → f (shown x Going input output log) ≡ shown y stop input output log)
+    → Moves f x y stop Told
 moves_quietly f x y stop Told l w quiet e =
     moves_telling f x y stop Told [] l w quiet (λ input output log. e input output log ∙ ap (λ all. shown y stop input output all) (sym (append-nil log)))
 
-pub moves_reading : (f : State → State) (x y : Seen) (byte : Option ℕ) (Told : List Event → Type 0) → Takes {E = Failed} x.left y.left (Ok byte) → y.written ≡ x.written → Told [] → ((input : List (Option ℕ)) (output : List ℕ) (log : List Event) → next_read input ≡ byte → f (shown x Going input output log) ≡ shown y Going (later_reads input) output log) → Moves f x y Going Told
+pub moves_reading : (f : State → State) (x y : Seen) (byte : Option ℕ) (Told : List Event → Type 0) → Takes {E = Failed} x.left y.left (Ok byte)
+    → y.written ≡ x.written → Told [] → ((input : List (Option ℕ)) (output : List ℕ) (log : List Event) → next_read input ≡ byte
+    → f (shown x Going input output log) ≡ shown y Going (later_reads input) output log) → Moves f x y Going Told
 moves_reading f x y byte Told takes w quiet e =
     let r : IsRead x.left y.left byte = read x.left y.left byte takes in (
       [],
@@ -81,7 +87,10 @@ moves_reading f x y byte Told takes w quiet e =
       ),
     )
 
-pub moves_writing : (f : State → State) (x y : Seen) (byte : ℕ) (Told : List Event → Type 0) → y.left ≡ x.left → y.written ≡ option_map (λ before. before ++ byte ∷ []) x.written → Told [] → ((input : List (Option ℕ)) (output : List ℕ) (log : List Event) → f (shown x Going input output log) ≡ shown y Going input (output ++ byte ∷ []) log) → Moves f x y Going Told
+pub moves_writing : (f : State → State) (x y : Seen) (byte : ℕ) (Told : List Event → Type 0) → y.left ≡ x.left
+    → y.written ≡ option_map (λ before. before ++ byte ∷ []) x.written → Told []
+    → ((input : List (Option ℕ)) (output : List ℕ) (log : List Event)
+    → f (shown x Going input output log) ≡ shown y Going input (output ++ byte ∷ []) log) → Moves f x y Going Told
 moves_writing f x y byte Told l w quiet e = (
   byte ∷ [],
   [],
@@ -96,12 +105,15 @@ moves_writing f x y byte Told l w quiet e = (
 )
 
 -- the same of a function that does the same
-pub moves_as : (f g : State → State) (x y : Seen) (stop : Stop) (Told : List Event → Type 0) → ((input : List (Option ℕ)) (output : List ℕ) (log : List Event) → g (shown x Going input output log) ≡ f (shown x Going input output log)) → Moves f x y stop Told → Moves g x y stop Told
+pub moves_as : (f g : State → State) (x y : Seen) (stop : Stop) (Told : List Event → Type 0)
+    → ((input : List (Option ℕ)) (output : List ℕ) (log : List Event) → g (shown x Going input output log) ≡ f (shown x Going input output log))
+    → Moves f x y stop Told → Moves g x y stop Told
 moves_as f g x y stop Told e m =
     (m.0, m.1, m.2, m.3, (m.4.0, m.4.1, λ later may out log. (tt, e (bytes_to_come (m.4.0 ++ later)) out log ∙ (m.4.2 later may out log).1)))
 
 -- the fetch of a pick that is one of the choices
-pub fetched : (x : Seen) (stop : Stop) (input : List (Option ℕ)) (output : List ℕ) (log : List Event) (pick : ℕ) → pick < length (choices x.room.held x.pc) → fetched_step (shown x stop input output log) pick ≡ picked_step x.room pick x.regs x.pc
+pub fetched : (x : Seen) (stop : Stop) (input : List (Option ℕ)) (output : List ℕ) (log : List Event) (pick : ℕ)
+    → pick < length (choices x.room.held x.pc) → fetched_step (shown x stop input output log) pick ≡ picked_step x.room pick x.regs x.pc
 unfolding fetched_step choices_at
 fetched x stop input output log pick lt = ap (λ p. picked_step x.room p x.regs x.pc) (mod-eq_of_lt lt)
 
@@ -118,17 +130,22 @@ way_more (Some w) v way' count pick n is follows =
     let f : Follows (Some (way_after w n)) way' count pick = subst (λ o. Follows o way' count pick) is follows in
     f.1 ∙ ap (λ k. Some (way_after w k)) (sym (add-one n))
 
-under_next : (w : Way) (s : State) (picks : List ℕ) (pick j : ℕ) → length picks ≡ j → pick ≡ pick_of (way_after w j) (choices_at (runs_from s picks j)) → slice_index (picks ++ pick ∷ []) j ≡ pick_of (way_after w j) (choices_at (runs_from s (picks ++ pick ∷ []) j))
+under_next : (w : Way) (s : State) (picks : List ℕ) (pick j : ℕ) → length picks ≡ j
+    → pick ≡ pick_of (way_after w j) (choices_at (runs_from s picks j))
+    → slice_index (picks ++ pick ∷ []) j ≡ pick_of (way_after w j) (choices_at (runs_from s (picks ++ pick ∷ []) j))
 under_next w s picks pick j len e =
     get_or_at picks pick [] 0 j len ∙ e ∙ ap (λ t. pick_of (way_after w j) (choices_at t)) (sym (runs_append s picks (pick ∷ []) j (omega (arith, len))))
 
-pub under_more : (way v way' : Option Way) (s : State) (picks : List ℕ) (pick count n : ℕ) → length picks ≡ n → v ≡ option_map (λ w. way_after w n) way → Follows v way' count pick → choices_at (runs_from s picks n) ≡ count → Under way s picks → Under way s (picks ++ pick ∷ [])
+pub under_more : (way v way' : Option Way) (s : State) (picks : List ℕ) (pick count n : ℕ) → length picks ≡ n
+    → v ≡ option_map (λ w. way_after w n) way → Follows v way' count pick → choices_at (runs_from s picks n) ≡ count → Under way s picks
+    → Under way s (picks ++ pick ∷ [])
 under_more None v way' s picks pick count n len is follows c under = tt
 under_more (Some w) v way' s picks pick count n len is follows c under = λ j lt.
     let f : Follows (Some (way_after w n)) way' count pick = subst (λ o. Follows o way' count pick) is follows in
     under_at (cases_lt j (length picks)) f lt
   where
-    under_at : {j : ℕ} → ((j < length picks) ⊎ (length picks ≤ j)) → Follows (Some (way_after w n)) way' count pick → j < length (picks ++ pick ∷ []) → slice_index (picks ++ pick ∷ []) j ≡ pick_of (way_after w j) (choices_at (runs_from s (picks ++ pick ∷ []) j))
+    under_at : {j : ℕ} → ((j < length picks) ⊎ (length picks ≤ j)) → Follows (Some (way_after w n)) way' count pick → j < length (picks ++ pick ∷ [])
+        → slice_index (picks ++ pick ∷ []) j ≡ pick_of (way_after w j) (choices_at (runs_from s (picks ++ pick ∷ []) j))
     under_at {j} (inl lt) f all = get_or_append_left picks (pick ∷ []) 0 j lt ∙ under j lt ∙ ap (λ t. pick_of (way_after w j) (choices_at t)) (sym (runs_append s picks (pick ∷ []) j (omega (arith, lt))))
     under_at {j} (inr ge) f all =
         let e : n ≡ j = omega (arith, ge, all, length-append picks (pick ∷ []), len) in
@@ -142,7 +159,11 @@ SoFar wanted place way picks n s = Under way s picks × (executed s picks n ≡ 
 abbrev pub Joins : (Before Behind Told : List Event → Type 0) → Type 0
 Joins Before Behind Told = (xs ys : List Event) → Before xs → Behind ys → Told (xs ++ ys)
 
-pub meets_more : (wanted : Bool) (place place' : Option ℕ) (x y z : Seen) (stop : Stop) → Notes wanted place place' y z stop → (way v way' : Option Way) (Before Behind Told : List Event → Type 0) → Joins Before Behind Told → (picks : List ℕ) (pick n : ℕ) → length picks ≡ n → v ≡ option_map (λ w. way_after w n) way → Follows v way' (length (choices y.room.held y.pc)) pick → Meets (SoFar wanted place way picks n) (λ s. runs_from s picks n) x y Going Before → Moves (λ s. turn s pick) y z stop Behind → Meets (SoFar wanted place' way (picks ++ pick ∷ []) (n + 1)) (λ s. runs_from s (picks ++ pick ∷ []) (n + 1)) x z stop Told
+pub meets_more : (wanted : Bool) (place place' : Option ℕ) (x y z : Seen) (stop : Stop) → Notes wanted place place' y z stop
+    → (way v way' : Option Way) (Before Behind Told : List Event → Type 0) → Joins Before Behind Told → (picks : List ℕ) (pick n : ℕ)
+    → length picks ≡ n → v ≡ option_map (λ w. way_after w n) way → Follows v way' (length (choices y.room.held y.pc)) pick
+    → Meets (SoFar wanted place way picks n) (λ s. runs_from s picks n) x y Going Before → Moves (λ s. turn s pick) y z stop Behind
+    → Meets (SoFar wanted place' way (picks ++ pick ∷ []) (n + 1)) (λ s. runs_from s (picks ++ pick ∷ []) (n + 1)) x z stop Told
 meets_more wanted place place' x y z stop noted way v way' Before Behind Told joins picks pick n len is follows m t =
     let all : List ℕ = picks ++ pick ∷ [] in
     let le : n ≤ length picks = omega (arith, len) in (
@@ -169,7 +190,9 @@ meets_more wanted place place' x y z stop noted way v way' Before Behind Told jo
               (
                 under_more way v way' s picks pick (length (choices y.room.held y.pc)) n len is follows count here.0.0,
                 omega (arith, executed_more s all n, executed_append s picks (pick ∷ []) n le, here.0.1, one),
-                departs_more wanted place place' s all n (shown y Going mid (o ++ m.0) (log ++ m.1)) (shown z stop (bytes_to_come later) (o ++ (m.0 ++ t.0)) (log ++ (m.1 ++ t.1))) at end noted (departs_append wanted place s picks (pick ∷ []) n le here.0.2),
+                departs_more wanted place place' s all n (shown y Going mid (o ++ m.0) (log ++ m.1))
+                    (shown z stop (bytes_to_come later) (o ++ (m.0 ++ t.0)) (log ++ (m.1 ++ t.1))) at end noted
+                    (departs_append wanted place s picks (pick ∷ []) n le here.0.2),
               ),
               end,
             ),

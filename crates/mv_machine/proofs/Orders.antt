@@ -12,7 +12,7 @@ use Rattle.mv_isa.specs.Execution.{reg, put}
 use Rattle.mv_fetch.specs.Held.{Room, Held}
 use Rattle.mv_image.specs.Spelling.{Fields}
 use Rattle.mv_patch.specs.Plans.{Planned, plan_of}
-use Rattle.mv_patch.specs.Orders.{is_known_order, bindings_after, answer_after, code_of, index_of}
+use Rattle.mv_patch.specs.Orders.{is_known_order, bindings_ordered, answer_after, code_of, index_of}
 use Rattle.mv_patch.specs.declared.order.Order.{Order}
 use Rattle.mv_patch.specs.declared.planning.PlanError.{PlanError}
 use Rattle.mv_patch.specs.declared.order.Order.TheVariants.{CommitAll, RevertAll, CommitFunction, RevertFunction, CommitRefs, RevertRefs}
@@ -29,7 +29,9 @@ of hart image regs pc room bindings input actions output log stop =
     record { hart = hart; image = image; regs = regs; pc = pc; room = room; bindings = bindings; input = input; actions = map act_of actions; output = output; log = log; stop = stop }
 
 -- a state with these fields
-same_state : (hart : ℕ) (image image' : Fields) (regs regs' : List ℕ) (pc pc' : ℕ) (room room' : Room) (bindings bindings' : List Binding) (input : List (Option ℕ)) (actions : List Action) (output : List ℕ) (log : List Event) → image' ≡ image → regs' ≡ regs → pc' ≡ pc → room' ≡ room → bindings' ≡ bindings
+same_state : (hart : ℕ) (image image' : Fields) (regs regs' : List ℕ) (pc pc' : ℕ) (room room' : Room) (bindings bindings' : List Binding)
+    (input : List (Option ℕ)) (actions : List Action) (output : List ℕ) (log : List Event) → image' ≡ image → regs' ≡ regs → pc' ≡ pc → room' ≡ room
+    → bindings' ≡ bindings
     → of hart image regs pc room bindings input actions output log Going ≡ of hart image' regs' pc' room' bindings' input actions output log Going
 same_state hart image image' regs regs' pc pc' room room' bindings bindings' input actions output log i r p m b =
     ap₂ (λ (x : Fields) (y : List ℕ). of hart x y pc room bindings input actions output log Going) (sym i) (sym r)
@@ -45,12 +47,14 @@ refuses engine value regs pc room r p m actions left written input output log =
     same_state engine.number engine.image engine.image (put engine.hart.regs 10 value) regs (add engine.hart.pc 4) pc (with_plan engine.memory []) room engine.bindings engine.bindings input actions output log refl r p m refl
     ∙ ap (λ (all : List Event). of engine.number engine.image regs pc room engine.bindings input actions output all Going) (sym (append-nil log))
 
-pub carries : (engine : Engine) (value : ℕ) (plan : Planned) (regs : List ℕ) (pc : ℕ) (room : Room) (bindings : List Binding) → regs ≡ put engine.hart.regs 10 value → pc ≡ add engine.hart.pc 4 → room ≡ with_plan engine.memory plan.pairs → bindings ≡ plan.bound
+pub carries : (engine : Engine) (value : ℕ) (plan : Planned) (regs : List ℕ) (pc : ℕ) (room : Room) (bindings : List Binding)
+    → regs ≡ put engine.hart.regs 10 value → pc ≡ add engine.hart.pc 4 → room ≡ with_plan engine.memory plan.pairs → bindings ≡ plan.bound
     → (actions : List Action) (left written : Option (List ℕ)) (input : List (Option ℕ)) (output : List ℕ) (log : List Event)
     → carried_out (shown (seen engine actions left written) Going input output log) plan value ≡ of engine.number engine.image regs pc room bindings input actions output (log ++ events_from 0 engine.bindings plan.bound) Going
 unfolding answered
 carries engine value plan regs pc room bindings r p m b actions left written input output log =
-    same_state engine.number engine.image engine.image (put engine.hart.regs 10 value) regs (add engine.hart.pc 4) pc (with_plan engine.memory plan.pairs) room plan.bound bindings input actions output (log ++ events_from 0 engine.bindings plan.bound) refl r p m b
+    same_state engine.number engine.image engine.image (put engine.hart.regs 10 value) regs (add engine.hart.pc 4) pc
+    (with_plan engine.memory plan.pairs) room plan.bound bindings input actions output (log ++ events_from 0 engine.bindings plan.bound) refl r p m b
 
 -- bindings of a commit that another hart has made
 pub takes_on : (engine : Engine) (bound : List Binding) (regs : List ℕ) (pc : ℕ) (room : Room) (bindings : List Binding) → regs ≡ put engine.hart.regs 10 1 → pc ≡ add engine.hart.pc 4 → room ≡ with_plan engine.memory [] → bindings ≡ bound
@@ -58,13 +62,14 @@ pub takes_on : (engine : Engine) (bound : List Binding) (regs : List ℕ) (pc : 
     → adopts (shown (seen engine actions left written) Going input output log) bound ≡ of engine.number engine.image regs pc room bindings input actions output (log ++ events_from 0 engine.bindings bound) Going
 unfolding answered
 takes_on engine bound regs pc room bindings r p m b actions left written input output log =
-    same_state engine.number engine.image engine.image (put engine.hart.regs 10 1) regs (add engine.hart.pc 4) pc (with_plan engine.memory []) room bound bindings input actions output (log ++ events_from 0 engine.bindings bound) refl r p m b
+    same_state engine.number engine.image engine.image (put engine.hart.regs 10 1) regs (add engine.hart.pc 4) pc
+    (with_plan engine.memory []) room bound bindings input actions output (log ++ events_from 0 engine.bindings bound) refl r p m b
 
 -- ---- orders
 
 -- an order does what its code and index say
 pub same_plan : (image : Fields) (held : Held) (bound : List Binding) (code index : ℕ) (order : Order) → IsAsked code index order → plan_of image held bound (code_of order) (index_of order) ≡ plan_of image held bound code index
-unfolding plan_of bindings_after answer_after
+unfolding plan_of bindings_ordered answer_after
 same_plan image held bound code index CommitAll e = subst (λ (c : ℕ). plan_of image held bound 0 0 ≡ plan_of image held bound c index) (sym e) refl
 same_plan image held bound code index RevertAll e = subst (λ (c : ℕ). plan_of image held bound 1 0 ≡ plan_of image held bound c index) (sym e) refl
 same_plan image held bound code index (CommitFunction f) e = ap₂ (λ c i. plan_of image held bound c i) (sym e.0) e.1
@@ -121,13 +126,17 @@ module _ (engine engine' : Engine) (left written : Option (List ℕ)) (Told : Li
       (moves_quietly (environment_call Plans) (from actions) (from actions) (Fault cause.Call) Told refl refl quiet
       (λ i o l. let s = shown (from actions) Going i o l in ap (λ (known : Bool). chosen known (nat_eq engine.number 0 && nat_eq live 0) s code index) e))
 
-  pub refused_order : (actions : List Action) → is_known_order engine.image code index ≡ true → (nat_eq engine.number 0 && nat_eq live 0) ≡ false → Told [] → Does (λ s. refused s (2 ^ 32 - 1)) engine actions engine' actions Going [] → Moves (environment_call Plans) (from actions) (to actions) Going Told
+  pub refused_order : (actions : List Action) → is_known_order engine.image code index ≡ true → (nat_eq engine.number 0 && nat_eq live 0) ≡ false
+      → Told [] → Does (λ s. refused s (2 ^ 32 - 1)) engine actions engine' actions Going []
+      → Moves (environment_call Plans) (from actions) (to actions) Going Told
   unfolding planned
   refused_order actions e busy quiet does = moves_telling (environment_call Plans) (from actions) (to actions) Going Told [] refl refl quiet
       (λ i o l. let s = shown (from actions) Going i o l in
       ap₂ (λ (known idle : Bool). chosen known idle s code index) e busy ∙ does left written i o l)
 
-  pub carried_order : (actions : List Action) (plan : Planned) (news : List Event) → is_known_order engine.image code index ≡ true → engine.number ≡ 0 → live ≡ 0 → plan ≡ plan_of engine.image engine.memory.held engine.bindings code index → Told news → Does (λ s. carried_out s plan plan.answer) engine actions engine' actions Going news
+  pub carried_order : (actions : List Action) (plan : Planned) (news : List Event) → is_known_order engine.image code index ≡ true → engine.number ≡ 0
+      → live ≡ 0 → plan ≡ plan_of engine.image engine.memory.held engine.bindings code index → Told news
+      → Does (λ s. carried_out s plan plan.answer) engine actions engine' actions Going news
       → Moves (environment_call Plans) (from actions) (to actions) Going Told
   unfolding planned
   carried_order actions plan news e leads idle is told does = moves_telling (environment_call Plans) (from actions) (to actions) Going Told news refl refl told
@@ -147,7 +156,9 @@ module _ (engine engine' : Engine) (left written : Option (List ℕ)) (Told : Li
   idle_is : live ≡ 0 → nat_eq live 0 ≡ true
   idle_is idle = ap (λ (n : ℕ). nat_eq n 0) idle
 
-  pub poll_of_none : (was is : List Action) → live ≡ 0 → Taken None was is → Told [] → ((actions : List Action) → Does (λ s. refused s 0) engine actions engine' actions Going []) → Moves (environment_call Polls) (from was) (to is) Going Told
+  pub poll_of_none : (was is : List Action) → live ≡ 0 → Taken None was is → Told []
+      → ((actions : List Action) → Does (λ s. refused s 0) engine actions engine' actions Going [])
+      → Moves (environment_call Polls) (from was) (to is) Going Told
   unfolding polled
   poll_of_none was is idle taken quiet does =
       let none : Moves (environment_call Polls) (from []) (to []) Going Told = moves_telling (environment_call Polls) (from []) (to []) Going Told [] refl refl quiet
@@ -178,11 +189,15 @@ pub acts : (x y : Seen) (Told : List Event → Type 0) (action same : Action) �
 acts x y Told action same e m = subst (λ (a : Action). Moves (act (act_of a)) x y Going Told) (sym e) m
 
 -- a flip: the memory behind its store, and the plan of a commit of all functions then
-pub flips : (engine engine' : Engine) (switch value : ℕ) (memory : Room) (plan : Planned) (news : List Event) (Told : List Event → Type 0) → memory ≡ with_value engine.image engine.memory switch value → plan ≡ plan_of engine.image memory.held engine.bindings 0 0 → Told news
+pub flips : (engine engine' : Engine) (switch value : ℕ) (memory : Room) (plan : Planned) (news : List Event) (Told : List Event → Type 0)
+    → memory ≡ with_value engine.image engine.memory switch value → plan ≡ plan_of engine.image memory.held engine.bindings 0 0 → Told news
     → (actions : List Action) (left written : Option (List ℕ))
-    → ((input : List (Option ℕ)) (output : List ℕ) (log : List Event) → carried_out (of engine.number engine.image engine.hart.regs engine.hart.pc memory engine.bindings input actions output log Going) plan 1 ≡ shown (seen engine' actions left written) Going input output (log ++ news))
+    → ((input : List (Option ℕ)) (output : List ℕ) (log : List Event)
+    → carried_out (of engine.number engine.image engine.hart.regs engine.hart.pc memory engine.bindings input actions output log Going) plan 1
+    ≡ shown (seen engine' actions left written) Going input output (log ++ news))
     → Moves (λ s. flipped s switch value) (seen engine actions left written) (seen engine' actions left written) Going Told
-flips engine engine' switch value memory plan news Told stores plans told actions left written does = moves_telling (λ s. flipped s switch value) (seen engine actions left written) (seen engine' actions left written) Going Told news refl refl told
+flips engine engine' switch value memory plan news Told stores plans told actions left written does =
+    moves_telling (λ s. flipped s switch value) (seen engine actions left written) (seen engine' actions left written) Going Told news refl refl told
     (λ i o l.
     ap (λ (m : Room). carried_out (of engine.number engine.image engine.hart.regs engine.hart.pc m engine.bindings i actions o l Going) (plan_of engine.image m.held engine.bindings 0 0) 1) (sym stores)
     ∙ ap (λ (p : Planned). carried_out (of engine.number engine.image engine.hart.regs engine.hart.pc memory engine.bindings i actions o l Going) p 1) (sym plans)

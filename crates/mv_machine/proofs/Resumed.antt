@@ -7,14 +7,14 @@ use Rattle.mv_isa.specs.Execution.{Faults, reg, step}
 use Rattle.mv_isa.specs.declared.instr.Cause.{Cause}
 use Rattle.mv_isa.specs.declared.instr.Cause.TheVariants as cause
 use Rattle.mv_fetch.specs.Held.{Room, IsInText, choices}
-use Rattle.mv_rv32.specs.Stepping.{access, picked_step, picked_target, IsCarriedOut}
+use Rattle.mv_rv32.specs.Stepping.{access, picked_step, picked_target, Proceeds}
 use Rattle.mv_io.specs.Outside.{CountAfter, OnInput}
 use Rattle.mv_io.proofs.Common.{some_later}
 use Rattle.mv_probe.specs.Ways.{Way, Follows, way_after}
 use Rattle.mv_machine.specs.declared.machine.Stopped.{Stopped}
 use Rattle.mv_machine.specs.declared.machine.Stopped.TheVariants as answer
 use Rattle.mv_machine.specs.Runs.{Stop, Going, Exit, Trap, Fault, State, Request, Reads, Writes, request_of, bytes_to_come, stopped, choices_at, fetched_step, turn, runs_from, executed}
-use Rattle.mv_machine.specs.Snapshots.{Snapshot, resumed, Under, Asks, Reached, Whole, Broken, Answered, Counts, Departs, WantsMemory, Ran, Unless, last_of, is_input_fault, is_output_fault}
+use Rattle.mv_machine.specs.Snapshots.{Snapshot, resumed, Under, CallsFor, Reached, Whole, Broken, Answered, HasCounted, Departs, WantsMemory, Ran, Unless, is_input_fault, is_output_fault}
 use Rattle.mv_machine.specs.Moves.{Seen, shown, Meets, Moves, Called, Wanting, Turns, Goes, Walked, executed_of, FaultAt, input_failed, output_failed}
 use Rattle.mv_machine.proofs.Turns.{turn_by, turn_faults, runs_more, adds_by, executed_more, runs_over, executed_over, runs_append, IsOver}
 use Rattle.mv_machine.proofs.Departing.{departs_append, departs_more, over_notes}
@@ -33,7 +33,9 @@ resumed_is : (m : Snapshot) (x : Seen) (input : List (Option ℕ)) → IsSeen m 
 unfolding resumed
 resumed_is m x input i = rw (i.hart, i.image, i.regs, i.pc, i.room, i.bindings) refl
 
-reached : (e : State) (y : Seen) (stop : Stop) (is : Snapshot) (later : List (Option ℕ)) (more : List ℕ) (news : List Event) (written : Option (List ℕ)) (Told : List Event → Type 0) → IsSeen is y → y.written ≡ option_map (λ before. before ++ more) written → Told news → e ≡ shown y stop later more news → Reached e stop is later written y.written Told
+reached : (e : State) (y : Seen) (stop : Stop) (is : Snapshot) (later : List (Option ℕ)) (more : List ℕ) (news : List Event)
+    (written : Option (List ℕ)) (Told : List Event → Type 0) → IsSeen is y → y.written ≡ option_map (λ before. before ++ more) written → Told news
+    → e ≡ shown y stop later more news → Reached e stop is later written y.written Told
 reached e y stop is later more news written Told i w told at = record {
   image = i.image ∙ sym (ap (λ (s : State). s.image) at);
   regs = i.regs ∙ sym (ap (λ (s : State). s.regs) at);
@@ -57,7 +59,7 @@ fetches e z pick regs pc room lt =
     ∙ ap₂ (λ (g : List ℕ) (a : ℕ). picked_step z.room (pick % length (choices z.room.held z.pc)) g a) regs pc
     ∙ ap (λ (p : ℕ). picked_step z.room p z.regs z.pc) (mod-eq_of_lt lt)
 
-asks : (e : State) (z : Seen) (pick : ℕ) (request : Request) → e.regs ≡ z.regs → e.pc ≡ z.pc → e.room ≡ z.room → pick < length (choices z.room.held z.pc) → Called z pick request → Asks e pick request
+asks : (e : State) (z : Seen) (pick : ℕ) (request : Request) → e.regs ≡ z.regs → e.pc ≡ z.pc → e.room ≡ z.room → pick < length (choices z.room.held z.pc) → Called z pick request → CallsFor e pick request
 asks e z pick request regs pc room lt c = (fetches e z pick regs pc room lt ∙ c.0, ap (λ (g : List ℕ). request_of (reg g 17)) regs ∙ c.1)
 
 wants : (e : State) (z : Seen) (pick : ℕ) → e.regs ≡ z.regs → e.pc ≡ z.pc → e.room ≡ z.room → pick < length (choices z.room.held z.pc) → Wanting z pick → WantsMemory e pick
@@ -66,7 +68,7 @@ wants e z pick regs pc room lt w =
     ap₂ (λ (c : ℕ) (r : Room). picked_target r (pick % c) e.regs e.pc) (choices_same e z pc room) room
     ∙ ap₂ (λ (g : List ℕ) (a : ℕ). picked_target z.room (pick % length (choices z.room.held z.pc)) g a) regs pc
     ∙ ap (λ (p : ℕ). picked_target z.room p z.regs z.pc) (mod-eq_of_lt lt) in
-    (subst (λ (a : Option ℕ). IsSomeAnd a IsInText) (sym target) w.0, ap (λ (r : Room). r.spare) room ∙ w.1, subst IsCarriedOut (sym (fetches e z pick regs pc room lt)) w.2)
+    (subst (λ (a : Option ℕ). IsSomeAnd a IsInText) (sym target) w.0, ap (λ (r : Room). r.spare) room ∙ w.1, subst Proceeds (sym (fetches e z pick regs pc room lt)) w.2)
 
 -- no word is fetched where there is no choice
 unfetched : (room : Room) (pick : ℕ) (regs : List ℕ) (pc : ℕ) → length (choices room.held pc) ≡ 0 → picked_step room pick regs pc ≡ Faults cause.Fetch
@@ -86,7 +88,9 @@ pub unless : (o : Option Stopped) (X : Type 0) → X → Unless o X
 unless None X h = h
 unless (Some last) X h = tt
 
-module _ (was is : Snapshot) (x y : Seen) (a : IsSeen was x) (b : IsSeen is y) (rows : is.image ≡ was.image) (way way' : Option Way) (A B : Type 0) {P : Type 0} (Tell : P → P → List Event → Type 0) (joins : (k l m : P) → Joins (Tell k l) (Tell l m) (Tell k m)) (p q : P) (wanted : Bool) (place : Option ℕ) (steps count : ℕ) where
+module _ (was is : Snapshot) (x y : Seen) (a : IsSeen was x) (b : IsSeen is y) (rows : is.image ≡ was.image) (way way' : Option Way) (A B : Type 0)
+    {P : Type 0} (Tell : P → P → List Event → Type 0) (joins : (k l m : P) → Joins (Tell k l) (Tell l m) (Tell k m)) (p q : P) (wanted : Bool)
+    (place : Option ℕ) (steps count : ℕ) where
   abbrev Told : List Event → Type 0
   Told = Tell p q
 
@@ -118,12 +122,13 @@ module _ (was is : Snapshot) (x y : Seen) (a : IsSeen was x) (b : IsSeen is y) (
     picks = g.0;
     way_is = g.2 ∙ ap (λ (n : ℕ). option_map (λ w. way_after w n) way) (sym g.1);
     run = from_meets (λ s. runs_from s g.0 steps) (SoFar wanted place way g.0 steps) Going
-        (λ later s. Under way s g.0 × Answered answer.Steps steps s g.0 (At later) A B × Counts answer.Steps steps s g.0 count × Departs wanted place s g.0 count) g.3
+        (λ later s. Under way s g.0 × Answered answer.Steps steps s g.0 (At later) A B × HasCounted answer.Steps steps s g.0 count × Departs wanted place s g.0 count) g.3
         (λ later s p r. (p.0, record { reached = r; picked = p.1 ∙ sym g.1 }, p.1 ∙ sym counted, departs_at steps s g.0 counted p.2));
   }
 
   -- an instruction ended the run
-  module _ (n : ℕ) (mid : Seen) (l : P) (v : Option Way) (lt : n < steps) (g : Goes wanted place n x mid way v (Tell p l)) (pick : ℕ) (below : pick < length (choices mid.room.held mid.pc)) (follows : Follows v way' (length (choices mid.room.held mid.pc)) pick) where
+  module _ (n : ℕ) (mid : Seen) (l : P) (v : Option Way) (lt : n < steps) (g : Goes wanted place n x mid way v (Tell p l)) (pick : ℕ)
+      (below : pick < length (choices mid.room.held mid.pc)) (follows : Follows v way' (length (choices mid.room.held mid.pc)) pick) where
     abbrev all : List ℕ
     all = g.0 ++ pick ∷ []
 
@@ -150,13 +155,13 @@ module _ (was is : Snapshot) (x y : Seen) (a : IsSeen was x) (b : IsSeen is y) (
     }
 
     ended : (stop : Stop) (r : Stopped) → IsOver stop → Moves (λ s. turn s pick) mid y stop (Tell l q) → ((later : List ℕ) (s : State) → Whole s all steps (At later) stop → Answered r steps s all (At later) A B)
-        → ((s : State) → executed s all steps ≡ count → Counts r steps s all count) → count ≡ n + 1 → Runs r
+        → ((s : State) → executed s all steps ≡ count → HasCounted r steps s all count) → count ≡ n + 1 → Runs r
     ended stop r over t answers counts counted = record {
       image = rows;
       picks = all;
       way_is = way_all;
       run = from_meets (λ s. runs_from s all (n + 1)) (SoFar wanted place way all (n + 1)) stop
-          (λ later s. Under way s all × Answered r steps s all (At later) A B × Counts r steps s all count × Departs wanted place s all count)
+          (λ later s. Under way s all × Answered r steps s all (At later) A B × HasCounted r steps s all count × Departs wanted place s all count)
           (meets_more wanted place place x mid y stop (over_notes wanted place mid y stop over) way v way' (Tell p l) (Tell l q) Told (joins p l q) g.0 pick n g.1 g.2 follows g.3 t)
           (λ later s p e.
           let w = whole stop over later s p e in
@@ -181,14 +186,16 @@ module _ (was is : Snapshot) (x y : Seen) (a : IsSeen was x) (b : IsSeen is y) (
     still_told quiet = (g.3.0, g.3.1, g.3.2, subst Told (append-nil g.3.1) (joins p l q g.3.1 [] g.3.3 quiet), g.3.4)
 
     -- an instruction was fetched and not carried out
-    broken : (r : Stopped) (Why : State → ℕ → Type 0) → y ≡ mid → Tell l q [] → ((e : State) → e.regs ≡ mid.regs → e.pc ≡ mid.pc → e.room ≡ mid.room → Why e pick) → ((later : List ℕ) (s : State) → Broken s all steps (At later) Why → Answered r steps s all (At later) A B)
-        → ((s : State) → count + 1 ≡ length all → Counts r steps s all count) → count ≡ n → Runs r
+    broken : (r : Stopped) (Why : State → ℕ → Type 0) → y ≡ mid → Tell l q []
+        → ((e : State) → e.regs ≡ mid.regs → e.pc ≡ mid.pc → e.room ≡ mid.room → Why e pick)
+        → ((later : List ℕ) (s : State) → Broken s all steps (At later) Why → Answered r steps s all (At later) A B)
+        → ((s : State) → count + 1 ≡ length all → HasCounted r steps s all count) → count ≡ n → Runs r
     broken r Why still quiet why answers counts counted = record {
       image = rows;
       picks = all;
       way_is = way_all;
       run = from_meets (λ s. runs_from s g.0 n) (SoFar wanted place way g.0 n) Going
-          (λ later s. Under way s all × Answered r steps s all (At later) A B × Counts r steps s all count × Departs wanted place s all count)
+          (λ later s. Under way s all × Answered r steps s all (At later) A B × HasCounted r steps s all count × Departs wanted place s all count)
           (subst (λ (z : Seen). Meets (SoFar wanted place way g.0 n) (λ s. runs_from s g.0 n) x z Going Told) (sym still) (still_told quiet))
           (λ later s p e.
           let same_state : runs_from s all n ≡ runs_from s g.0 n = runs_append s g.0 (pick ∷ []) n (omega (arith, g.1)) in
@@ -210,10 +217,10 @@ module _ (was is : Snapshot) (x y : Seen) (a : IsSeen was x) (b : IsSeen is y) (
     }
 
     pub input_fault_at : y ≡ mid → Tell l q [] → Called mid pick Reads → A → count ≡ n → Runs answer.InputFault
-    input_fault_at still quiet c rose = broken answer.InputFault (λ e p. Asks e p Reads × A) still quiet (λ e regs pc room. (asks e mid pick Reads regs pc room below c, rose)) (λ later s w. w) (λ s e. e)
+    input_fault_at still quiet c rose = broken answer.InputFault (λ e p. CallsFor e p Reads × A) still quiet (λ e regs pc room. (asks e mid pick Reads regs pc room below c, rose)) (λ later s w. w) (λ s e. e)
 
     pub output_fault_at : y ≡ mid → Tell l q [] → Called mid pick Writes → B → count ≡ n → Runs answer.OutputFault
-    output_fault_at still quiet c rose = broken answer.OutputFault (λ e p. Asks e p Writes × B) still quiet (λ e regs pc room. (asks e mid pick Writes regs pc room below c, rose)) (λ later s w. w) (λ s e. e)
+    output_fault_at still quiet c rose = broken answer.OutputFault (λ e p. CallsFor e p Writes × B) still quiet (λ e regs pc room. (asks e mid pick Writes regs pc room below c, rose)) (λ later s w. w) (λ s e. e)
 
     pub memory_at : y ≡ mid → Tell l q [] → Wanting mid pick → count ≡ n → Runs answer.Memory
     memory_at still quiet w = broken answer.Memory WantsMemory still quiet (λ e regs pc room. wants e mid pick regs pc room below w) (λ later s h. h) (λ s e. e)
@@ -272,7 +279,7 @@ module _ (was is : Snapshot) (x y : Seen) (a : IsSeen was x) (b : IsSeen is y) (
       picks = g.0;
       way_is = stays ∙ g.2 ∙ ap (λ (k : ℕ). option_map (λ w. way_after w k) way) (sym g.1);
       run = from_meets (λ s. runs_from s g.0 (n + 1)) (SoFar wanted place way g.0 (n + 1)) (Fault cause.Fetch)
-          (λ later s. Under way s g.0 × Answered (answer.Fault mid.pc cause.Fetch) steps s g.0 (At later) A B × Counts (answer.Fault mid.pc cause.Fetch) steps s g.0 count × Departs wanted place s g.0 count)
+          (λ later s. Under way s g.0 × Answered (answer.Fault mid.pc cause.Fetch) steps s g.0 (At later) A B × HasCounted (answer.Fault mid.pc cause.Fetch) steps s g.0 count × Departs wanted place s g.0 count)
           (subst (λ (z : Seen). Meets (SoFar wanted place way g.0 (n + 1)) (λ s. runs_from s g.0 (n + 1)) x z (Fault cause.Fetch) Told) (sym still) to_fault)
           (λ later s p e.
           let last = to_last s e.stopped in
@@ -314,24 +321,6 @@ module _ (was is : Snapshot) (x y : Seen) (a : IsSeen was x) (b : IsSeen is y) (
       → Ran steps result count wanted place was is actions x.left y.left x.written y.written way way' A B Told
   ran actions handed r fetched result e counted w f =
       subst (λ (all : List Action). Ran steps result count wanted place was is all x.left y.left x.written y.written way way' A B Told) handed (subst (λ (o : Stopped). Runs o) (sym e) (walked r fetched counted w f))
-
-abbrev is_fault : Option Stopped → Type 0
-is_fault (Some (answer.Fault pc why)) = Unit {0}
-is_fault _ = ⊥
-
-not_steps : (x y : Seen) (way way' : Option Way) (A B : Type 0) (Told : List Event → Type 0) → Turns (Some answer.Steps) x y way way' A B Told → ⊥
-not_steps x y way way' A B Told (inl t) = subst (λ (r : Option Stopped). is_fault r) (sym t.1) tt
-not_steps x y way way' A B Told (inr t) = t.3
-
-pub last_is : {P : Type 0} (Tell : P → P → List Event → Type 0) (p q : P) (wanted : Bool) (place : Option ℕ) (steps : ℕ) (x y : Seen) (way way' : Option Way) (A B : Type 0) (r : Option Stopped) (fetched : ℕ) → Walked Tell p q wanted place steps r fetched x y way way' A B → r ≡ last_of (unwrap_or r answer.Steps)
-last_is Tell p q wanted place steps x y way way' A B None fetched w = refl
-last_is Tell p q wanted place steps x y way way' A B (Some (answer.Ended status)) fetched w = refl
-last_is Tell p q wanted place steps x y way way' A B (Some (answer.Trapped code)) fetched w = refl
-last_is Tell p q wanted place steps x y way way' A B (Some answer.Steps) fetched w = absurd (not_steps w.1 y w.3 way' A B (Tell w.2 q) w.7)
-last_is Tell p q wanted place steps x y way way' A B (Some answer.InputFault) fetched w = refl
-last_is Tell p q wanted place steps x y way way' A B (Some answer.OutputFault) fetched w = refl
-last_is Tell p q wanted place steps x y way way' A B (Some (answer.Fault pc why)) fetched w = refl
-last_is Tell p q wanted place steps x y way way' A B (Some answer.Memory) fetched w = refl
 
 -- the device that the answer of a call of `run` names is the one that the last instruction names
 pub input_count : (r : Option Stopped) (result : Stopped) (before now : ℕ) → result ≡ unwrap_or r answer.Steps → CountAfter (input_failed r) before now → CountAfter (is_input_fault result) before now

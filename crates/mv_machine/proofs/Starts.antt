@@ -29,7 +29,9 @@ start_of hart image pc held spare reserve bindings input = record {
 }
 
 -- the parts that a hart starts with are those of the first state
-pub started : (hart : ℕ) (image same : Fields) (pc : ℕ) (room : Room) (bindings : List Binding) (count n : ℕ) → same ≡ image → pc ≡ image.entry → room.held ≡ first_memory image.text image.globals → room.spare ≡ n → room.reserve ≡ n → n ≡ length image.functions + 2 * length image.sites + 4 * length image.points → bindings ≡ replicate count free → count ≡ binding_count image
+pub started : (hart : ℕ) (image same : Fields) (pc : ℕ) (room : Room) (bindings : List Binding) (count n : ℕ) → same ≡ image → pc ≡ image.entry
+    → room.held ≡ first_memory image.text image.globals → room.spare ≡ n → room.reserve ≡ n
+    → n ≡ length image.functions + 2 * length image.sites + 4 * length image.points → bindings ≡ replicate count free → count ≡ binding_count image
     → (input : List (Option ℕ)) → start_of hart same pc room.held room.spare room.reserve bindings input ≡ first image input (record { hart = hart; acts = [] })
 unfolding first patchable
 started hart image same pc room bindings count n w p h s r e b c input =

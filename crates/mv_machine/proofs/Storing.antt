@@ -37,7 +37,9 @@ unfolding access
 stored_is room a w = refl
 
 -- a store outside text, carried out or refused
-pub stores : {T : Type 0} (old new : Room) (a w : ℕ) (result : Result T StoreError) → 0x0010_0000 ≤ a → OnOk result (store old.held a 4 w ≡ Ok new.held) → OnOk result (new.spare ≡ spared (region_of a) old.spare) → new.reserve ≡ old.reserve → OnErr result (new ≡ old)
+pub stores : {T : Type 0} (old new : Room) (a w : ℕ) (result : Result T StoreError) → 0x0010_0000 ≤ a
+    → OnOk result (store old.held a 4 w ≡ Ok new.held) → OnOk result (new.spare ≡ spared (region_of a) old.spare) → new.reserve ≡ old.reserve
+    → OnErr result (new ≡ old)
     → IfErr result (λ e. StoreFails e a old.spare (store old.held a 4 w)) → new ≡ stored_word old a w
 stores old new a w (Ok done) ge held spare reserve err cause =
     ap₂ (λ (s r : ℕ). record { held = new.held; spare = s; reserve = r }) spare reserve ∙ sym (stored_is old a w ∙ ap (λ r. stored_by old a r) held)
@@ -60,7 +62,8 @@ next_pair room address place pairs other lt =
     ∙ ap (λ (ps : List Pair). stored_words room address (spelled_pairs ps)) (sym more)
 
 -- and so behind two stores
-pub next_stored : (room first second : Room) (address place : ℕ) (pairs : List Pair) (other : Pair) → place < length pairs → first ≡ stored_word room address (get_or pairs place other).address → second ≡ stored_word first (address + 4) (get_or pairs place other).word
+pub next_stored : (room first second : Room) (address place : ℕ) (pairs : List Pair) (other : Pair) → place < length pairs
+    → first ≡ stored_word room address (get_or pairs place other).address → second ≡ stored_word first (address + 4) (get_or pairs place other).word
     → stored_words second (address + 8) (spelled_pairs (drop (place + 1) pairs)) ≡ stored_words room address (spelled_pairs (drop place pairs))
 next_stored room first second address place pairs other lt e f =
     ap (λ (m : Room). stored_words m (address + 8) (spelled_pairs (drop (place + 1) pairs))) (f ∙ ap (λ (m : Room). stored_word m (address + 4) (get_or pairs place other).word) e)

@@ -23,7 +23,8 @@ step place old new a b lt lt' = ap₂ (λ (xs ys : List Binding). events_from pl
 next : (place : ℕ) (xs ys : List Binding) → events_from (suc place) xs ys ≡ events_from (place + 1) xs ys
 next place xs ys = ap (λ k. events_from k xs ys) (sym (add-one place))
 
-pub told_next : (old new : List Binding) (place : ℕ) (sofar : List Event) (a b : Binding) → place < length old → place < length new → IsTold old new place sofar → IsTold old new (place + 1) (sofar ++ change place (get_or old place a) (get_or new place b))
+pub told_next : (old new : List Binding) (place : ℕ) (sofar : List Event) (a b : Binding) → place < length old → place < length new
+    → IsTold old new place sofar → IsTold old new (place + 1) (sofar ++ change place (get_or old place a) (get_or new place b))
 told_next old new place sofar a b lt lt' told =
     let later = events_from (place + 1) (drop (place + 1) old) (drop (place + 1) new) in
     let here = change place (get_or old place a) (get_or new place b) in

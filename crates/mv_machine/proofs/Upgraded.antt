@@ -16,7 +16,7 @@ use Rattle.mv_image.specs.Patched.{Bindings, word_by, word_through, word_under, 
 use Rattle.mv_patch.specs.Pairs.{pairs_between}
 use Rattle.mv_patch.specs.declared.prepared.Pair.{Pair}
 use Rattle.mv_patch.specs.Tables.{patchable}
-use Rattle.mv_patch.specs.Orders.{is_known_order, values_of, bindings_after, answer_after}
+use Rattle.mv_patch.specs.Orders.{is_known_order, values_of, bindings_ordered, answer_after}
 use Rattle.mv_patch.specs.Plans.{Planned, plan_between, plan_of}
 use Rattle.mv_patch.specs.Stores.{stored_all}
 use Rattle.mv_machine.specs.Acts.{PollActs}
@@ -53,8 +53,8 @@ text_alike image bound = words_alike image bound text_start image.text
 pub plan_between_alike : (image : Fields) (old new : List Binding) → plan_between (upgraded image) old new ≡ plan_between image old new
 plan_between_alike image old new = ap₂ (λ (x y : List ℕ). pairs_between x y) (text_alike image (values_of old)) (text_alike image (values_of new))
 
-bindings_alike : (image : Fields) (held : Held) (code index : ℕ) (old : List Binding) → bindings_after (upgraded image) held code index old ≡ bindings_after image held code index old
-unfolding bindings_after fitting_variant
+bindings_alike : (image : Fields) (held : Held) (code index : ℕ) (old : List Binding) → bindings_ordered (upgraded image) held code index old ≡ bindings_ordered image held code index old
+unfolding bindings_ordered fitting_variant
 bindings_alike image held code index old = refl
 
 answer_alike : (image : Fields) (code index : ℕ) (bound : List Binding) → answer_after (upgraded image) code index bound ≡ answer_after image code index bound
@@ -68,7 +68,7 @@ known_alike image code index = refl
 pub plan_alike : (image : Fields) (held : Held) (old : List Binding) (code index : ℕ) → plan_of (upgraded image) held old code index ≡ plan_of image held old code index
 unfolding plan_of
 plan_alike image held old code index =
-    let new = bindings_after image held code index old in
+    let new = bindings_ordered image held code index old in
     ap (λ (bound : List Binding). record { pairs = plan_between (upgraded image) old bound; bound = bound; answer = answer_after (upgraded image) code index bound }) (bindings_alike image held code index old)
     ∙ ap₂ (λ (pairs : List Pair) (answer : ℕ). record { pairs = pairs; bound = new; answer = answer }) (plan_between_alike image old new) (answer_alike image code index new)
 
@@ -94,7 +94,8 @@ ordered_alike s code index =
 planned_alike : (s : State) (code index : ℕ) → planned (with_upgraded s) code index ≡ with_upgraded (planned s code index)
 unfolding planned
 planned_alike s code index =
-    ap (λ (known : Bool). if known then (if nat_eq s.hart 0 && nat_eq (live_frames s) 0 then ordered (with_upgraded s) code index else refused (with_upgraded s) (2 ^ 32 - 1)) else stopped (with_upgraded s) (Fault cause.Call)) (known_alike s.image code index)
+    ap (λ (known : Bool). if known then (if nat_eq s.hart 0 && nat_eq (live_frames s) 0 then ordered (with_upgraded s) code index
+    else refused (with_upgraded s) (2 ^ 32 - 1)) else stopped (with_upgraded s) (Fault cause.Call)) (known_alike s.image code index)
     ∙ by_test (is_known_order s.image code index) (if nat_eq s.hart 0 && nat_eq (live_frames s) 0 then ordered s code index else refused s (2 ^ 32 - 1)) (stopped s (Fault cause.Call))
     (if nat_eq s.hart 0 && nat_eq (live_frames s) 0 then ordered (with_upgraded s) code index else refused (with_upgraded s) (2 ^ 32 - 1)) (stopped (with_upgraded s) (Fault cause.Call))
     (by_test (nat_eq s.hart 0 && nat_eq (live_frames s) 0) (ordered s code index) (refused s (2 ^ 32 - 1)) (ordered (with_upgraded s) code index) (refused (with_upgraded s) (2 ^ 32 - 1))

@@ -41,7 +41,8 @@ outcomes_map (Some answer.Memory) f a b d h = d h
 abbrev pub stepped : Seen → Hart → Room → Seen
 stepped x hart room = record x { regs = hart.regs; pc = hart.pc; room = room }
 
-pub steps_on : (x : Seen) (hart' : Hart) (room' : Room) (pick : ℕ) (Told : List Event → Type 0) → Told [] → pick < length (choices x.room.held x.pc) → picked_step x.room pick x.regs x.pc ≡ GoesTo hart'.regs hart'.pc room' → Moves (λ s. turn s pick) x (stepped x hart' room') Going Told
+pub steps_on : (x : Seen) (hart' : Hart) (room' : Room) (pick : ℕ) (Told : List Event → Type 0) → Told [] → pick < length (choices x.room.held x.pc)
+    → picked_step x.room pick x.regs x.pc ≡ GoesTo hart'.regs hart'.pc room' → Moves (λ s. turn s pick) x (stepped x hart' room') Going Told
 steps_on x hart' room' pick Told quiet lt e =
     moves_quietly (λ s. turn s pick) x (stepped x hart' room') Going Told refl refl quiet
     (λ i o l. turn_by (shown x Going i o l) pick (GoesTo hart'.regs hart'.pc room') refl (fetched x Going i o l pick lt ∙ e))
@@ -54,7 +55,9 @@ faults x y why pick Told quiet same lt e = subst (λ z. Moves (λ s. turn s pick
 pub same_stepped : (x : Seen) (hart hart' : Hart) (room room' : Room) → hart' ≡ hart → room' ≡ room → stepped x hart' room' ≡ stepped x hart room
 same_stepped x hart hart' room room' h r = ap₂ (λ (g : Hart) (m : Room). stepped x g m) h r
 
-pub calls : (r : Option Stopped) (x z y : Seen) (pick : ℕ) (A B W : Type 0) (Told : List Event → Type 0) → z ≡ x → pick < length (choices x.room.held x.pc) → picked_step x.room pick x.regs x.pc ≡ Calls → FromCall r z y A B Told → Outcomes r (λ stop. Moves (λ s. turn s pick) x y stop Told) ((y ≡ x) × Told [] × Called x pick Reads × A) ((y ≡ x) × Told [] × Called x pick Writes × B) W
+pub calls : (r : Option Stopped) (x z y : Seen) (pick : ℕ) (A B W : Type 0) (Told : List Event → Type 0) → z ≡ x
+    → pick < length (choices x.room.held x.pc) → picked_step x.room pick x.regs x.pc ≡ Calls → FromCall r z y A B Told
+    → Outcomes r (λ stop. Moves (λ s. turn s pick) x y stop Told) ((y ≡ x) × Told [] × Called x pick Reads × A) ((y ≡ x) × Told [] × Called x pick Writes × B) W
 calls r x z y pick A B W Told same lt e h = outcomes_map r
     (λ stop m. moves_as (environment_call (request_of (reg x.regs 17))) (λ s. turn s pick) x y stop Told (λ i o l. turn_by (shown x Going i o l) pick Calls refl (fetched x Going i o l pick lt ∙ e)) m)
     (λ i. (i.0, i.1, (e, i.2), i.3))
@@ -86,7 +89,8 @@ module _ (e : Engine) (actions : List Action) (left written : Option (List ℕ))
   unchanged : hart' ≡ e.hart → room' ≡ e.memory → z ≡ x
   unchanged h m = same_stepped x e.hart hart' e.memory room' h m
 
-  settled : (s : Stepped) (pick : ℕ) → pick < length (choices x.room.held x.pc) → Gives (picked_step x.room pick x.regs x.pc) s hart' room' → Stays s e.hart hart' e.memory room' → Wants s (picked_target x.room pick x.regs x.pc) x.room → Settles s r z y A B Told → led r y pick
+  settled : (s : Stepped) (pick : ℕ) → pick < length (choices x.room.held x.pc) → Gives (picked_step x.room pick x.regs x.pc) s hart' room'
+      → Stays s e.hart hart' e.memory room' → Wants s (picked_target x.room pick x.regs x.pc) x.room → Settles s r z y A B Told → led r y pick
   settled over.Next pick lt gives stays wants after =
       subst (λ (o : Option Stopped). led o y pick) (sym after.0) (subst (λ (w : Seen). led None w pick) (sym after.1) (steps_on x hart' room' pick Told after.2 lt gives))
   settled over.Call pick lt gives stays wants after = calls r x z y pick A B ((y ≡ x) × Told [] × Wanting x pick) Told (unchanged stays.0 stays.1) lt gives after
@@ -138,7 +142,8 @@ goes_none wanted x way Told quiet = (
   ),
 )
 
-pub goes_more : (wanted : Bool) (place place' : Option ℕ) (n : ℕ) (x y z : Seen) (way v way' : Option Way) (A B : Type 0) (Before Behind Told : List Event → Type 0) → Joins Before Behind Told → Goes wanted place n x y way v Before → Turns None y z v way' A B Behind
+pub goes_more : (wanted : Bool) (place place' : Option ℕ) (n : ℕ) (x y z : Seen) (way v way' : Option Way) (A B : Type 0)
+    (Before Behind Told : List Event → Type 0) → Joins Before Behind Told → Goes wanted place n x y way v Before → Turns None y z v way' A B Behind
     → Notes wanted place place' y z Going → Goes wanted place' (n + 1) x z way way' Told
 goes_more wanted place place' n x y z way v way' A B Before Behind Told joins g (inl t) noted = absurd (none-some _ t.1)
 goes_more wanted place place' n x y z way v way' A B Before Behind Told joins g (inr t) noted = (
@@ -196,7 +201,8 @@ call_stays : (hart hart' : Hart) (room room' : Room) (way way' : Option Way) →
 call_stays hart hart' room room' way way' (inl n) = ap (λ (h : Hart). h.pc) n.2
 call_stays hart hart' room room' way way' (inr t) = ap (λ (h : Hart). h.pc) t.4.0
 
-pub notes_settled : (wanted : Bool) (s : Stepped) (e : Engine) (actions : List Action) (left written : Option (List ℕ)) (z : Seen) (hart' : Hart) (room' : Room) (way way' : Option Way) (place place' : Option ℕ) (A B : Type 0) (Told : List Event → Type 0)
+pub notes_settled : (wanted : Bool) (s : Stepped) (e : Engine) (actions : List Action) (left written : Option (List ℕ)) (z : Seen) (hart' : Hart)
+    (room' : Room) (way way' : Option Way) (place place' : Option ℕ) (A B : Type 0) (Told : List Event → Type 0)
     → Steps s e.hart hart' e.memory room' way way' → Settles s None (stepped (seen e actions left written) hart' room') z A B Told → place' ≡ noted wanted s (floor e.image) e.hart.pc hart'.pc place
     → Notes wanted place place' (seen e actions left written) z Going
 notes_settled wanted over.Next e actions left written z hart' room' way way' place place' A B Told steps after note =
@@ -207,7 +213,8 @@ notes_settled wanted (over.Fault why) e actions left written z hart' room' way w
 notes_settled wanted over.Memory e actions left written z hart' room' way way' place place' A B Told steps after note = absurd (none-some _ after.0)
 
 -- and where it doesn't
-pub nothing_noted : (wanted : Bool) (s : Stepped) (stopped : Stopped) (x z : Seen) (floor from to : ℕ) (place : Option ℕ) (A B : Type 0) (Told : List Event → Type 0) → Settles s (Some stopped) x z A B Told → noted wanted s floor from to place ≡ place
+pub nothing_noted : (wanted : Bool) (s : Stepped) (stopped : Stopped) (x z : Seen) (floor from to : ℕ) (place : Option ℕ) (A B : Type 0)
+    (Told : List Event → Type 0) → Settles s (Some stopped) x z A B Told → noted wanted s floor from to place ≡ place
 nothing_noted wanted over.Next stopped x z floor from to place A B Told after = absurd (none-some _ (sym after.0))
 nothing_noted wanted over.Call stopped x z floor from to place A B Told after = refl
 nothing_noted wanted (over.Fault why) stopped x z floor from to place A B Told after = refl

@@ -10,7 +10,7 @@ abbrev pub is_row_value : Option SwitchRow → ℕ → Bool
 is_row_value None v = false
 is_row_value (Some row) v = is_value (kind_number row.kind) v
 
--- An action fits where its switch is one of the rows and its value is one of that row's kind.
-abbrev pub fits : List SwitchRow → Action → Bool
-fits rows Skip = true
-fits rows (Flip s v) = is_row_value (slice_get rows s) v
+-- An action fits_rows where its switch is one of the rows and its value is one of that row's kind.
+abbrev pub fits_rows : List SwitchRow → Action → Bool
+fits_rows rows Skip = true
+fits_rows rows (Flip s v) = is_row_value (slice_get rows s) v

@@ -10,7 +10,7 @@ use Rattle.mv_isa.specs.declared.instr.Cause.TheVariants as cause
 use Rattle.mv_isa.specs.Execution.{put, reg, Calls}
 use Rattle.mv_isa.specs.Registers.{a0, a7}
 use Rattle.mv_fetch.specs.Held.{Room, IsInText, choices}
-use Rattle.mv_rv32.specs.Stepping.{picked_step, picked_target, IsCarriedOut, Gives, Stays, Wants}
+use Rattle.mv_rv32.specs.Stepping.{picked_step, picked_target, Proceeds, Gives, Stays, Wants}
 use Rattle.mv_rv32.specs.declared.hart.Hart.{Hart}
 use Rattle.mv_rv32.specs.declared.hart.Stepped.{Stepped}
 use Rattle.mv_rv32.specs.declared.hart.Stepped.TheVariants as stepped
@@ -18,7 +18,7 @@ use Rattle.mv_machine.specs.declared.engine.Engine.{Engine}
 use Rattle.mv_io.specs.Outside.{OnInput, Takes}
 use Rattle.mv_io.specs.declared.outside.Failed.{Failed}
 use Rattle.mv_probe.specs.Ways.{Way, Follows, way_after}
-use Rattle.mv_machine.specs.declared.turning.Stride.{Stride}
+use Rattle.mv_machine.specs.declared.run_loop.Stride.{Stride}
 use Rattle.mv_machine.specs.declared.machine.Stopped.{Stopped}
 use Rattle.mv_machine.specs.declared.machine.Stopped.TheVariants as answer
 use Rattle.mv_patch.specs.Plans.{plan_between}
@@ -135,7 +135,7 @@ Called x pick request = (picked_step x.room pick x.regs x.pc ≡ Calls) × (requ
 
 -- the instruction is a store into text that the definition carries out, and nothing is spare
 abbrev pub Wanting : Seen → (pick : ℕ) → Type 0
-Wanting x pick = IsSomeAnd (picked_target x.room pick x.regs x.pc) IsInText × (x.room.spare ≡ 0) × IsCarriedOut (picked_step x.room pick x.regs x.pc)
+Wanting x pick = IsSomeAnd (picked_target x.room pick x.regs x.pc) IsInText × (x.room.spare ≡ 0) × Proceeds (picked_step x.room pick x.regs x.pc)
 
 -- The instruction at pc over a hart and a memory: no fetch there, or the one that the oracle picks. Nothing changes but where it goes on.
 abbrev pub Steps : Stepped → Hart → Hart → Room → Room → Option Way → Option Way → Type 0

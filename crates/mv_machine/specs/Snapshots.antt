@@ -9,7 +9,7 @@ use Rattle.mv_isa.specs.Execution.{Calls, reg}
 use Rattle.mv_isa.specs.declared.instr.Cause.{Cause}
 use Rattle.mv_isa.specs.Registers.{a7}
 use Rattle.mv_fetch.specs.Held.{Room, IsInText}
-use Rattle.mv_rv32.specs.Stepping.{picked_target, IsCarriedOut}
+use Rattle.mv_rv32.specs.Stepping.{picked_target, Proceeds}
 use Rattle.mv_io.specs.Outside.{OnInput}
 use Rattle.mv_probe.specs.Ways.{Way, pick_of, way_after}
 use Rattle.mv_machine.specs.declared.machine.Stopped.{Stopped}
@@ -40,13 +40,13 @@ Under way s picks =
     IfSome way (λ w. (j : ℕ) → j < length picks → slice_index picks j ≡ pick_of (way_after w j) (choices_at (runs_from s picks j)))
 
 -- the environment call that a pick fetches
-abbrev pub Asks : State → (pick : ℕ) → Request → Type 0
-Asks s pick request = (fetched_step s pick ≡ Calls) × (request_of (reg s.regs a7) ≡ request)
+abbrev pub CallsFor : State → (pick : ℕ) → Request → Type 0
+CallsFor s pick request = (fetched_step s pick ≡ Calls) × (request_of (reg s.regs a7) ≡ request)
 
 -- the instruction that a pick fetches is a store into text that the definition carries out, and as many words as were reserved have been stored
 -- there since the last FENCE.I
 abbrev pub WantsMemory : State → (pick : ℕ) → Type 0
-WantsMemory s pick = IsSomeAnd (picked_target s.room (pick % choices_at s) s.regs s.pc) IsInText × (s.room.spare ≡ 0) × IsCarriedOut (fetched_step s pick)
+WantsMemory s pick = IsSomeAnd (picked_target s.room (pick % choices_at s) s.regs s.pc) IsInText × (s.room.spare ≡ 0) × Proceeds (fetched_step s pick)
 
 -- the state that a call of `run` reached, what is left in the machine, the source and the sink, and that each probe was told the log
 pub record Reached (s : State) (stop : Stop) (is : Snapshot) (later : List (Option ℕ)) (written written' : Option (List ℕ)) (Told : List Event → Type 0) : Type 0 where
@@ -86,19 +86,19 @@ Answered (answer.Ended status) steps s picks at input_rose output_rose = Whole s
 Answered (answer.Trapped code) steps s picks at input_rose output_rose = Whole s picks steps at (Trap code)
 Answered answer.Steps steps s picks at input_rose output_rose = Whole s picks steps at Going
 Answered (answer.Fault pc why) steps s picks at input_rose output_rose = Faulted s picks steps at pc why
-Answered answer.InputFault steps s picks at input_rose output_rose = Broken s picks steps at (λ e pick. Asks e pick Reads × input_rose)
-Answered answer.OutputFault steps s picks at input_rose output_rose = Broken s picks steps at (λ e pick. Asks e pick Writes × output_rose)
+Answered answer.InputFault steps s picks at input_rose output_rose = Broken s picks steps at (λ e pick. CallsFor e pick Reads × input_rose)
+Answered answer.OutputFault steps s picks at input_rose output_rose = Broken s picks steps at (λ e pick. CallsFor e pick Writes × output_rose)
 Answered answer.Memory steps s picks at input_rose output_rose = Broken s picks steps at WantsMemory
 
 -- how many of the instructions were executed: of those that were picked, all but one that was not carried out
-abbrev pub Counts : Stopped → (steps : ℕ) → State → (picks : List ℕ) → (count : ℕ) → Type 0
-Counts (answer.Ended status) steps s picks count = executed s picks steps ≡ count
-Counts (answer.Trapped code) steps s picks count = executed s picks steps ≡ count
-Counts answer.Steps steps s picks count = executed s picks steps ≡ count
-Counts (answer.Fault pc why) steps s picks count = executed s picks steps ≡ count
-Counts answer.InputFault steps s picks count = count + 1 ≡ length picks
-Counts answer.OutputFault steps s picks count = count + 1 ≡ length picks
-Counts answer.Memory steps s picks count = count + 1 ≡ length picks
+abbrev pub HasCounted : Stopped → (steps : ℕ) → State → (picks : List ℕ) → (count : ℕ) → Type 0
+HasCounted (answer.Ended status) steps s picks count = executed s picks steps ≡ count
+HasCounted (answer.Trapped code) steps s picks count = executed s picks steps ≡ count
+HasCounted answer.Steps steps s picks count = executed s picks steps ≡ count
+HasCounted (answer.Fault pc why) steps s picks count = executed s picks steps ≡ count
+HasCounted answer.InputFault steps s picks count = count + 1 ≡ length picks
+HasCounted answer.OutputFault steps s picks count = count + 1 ≡ length picks
+HasCounted answer.Memory steps s picks count = count + 1 ≡ length picks
 
 -- where the place is wanted the departure of so many instructions, and else none
 abbrev pub Departs : (wanted : Bool) → Option ℕ → State → (picks : List ℕ) → (count : ℕ) → Type 0
@@ -114,7 +114,7 @@ pub record Ran (steps : ℕ) (answer : Stopped) (count : ℕ) (wanted : Bool) (p
   pub run : OnInput left left' (λ taken later.
       let s = resumed was (bytes_to_come (taken ++ later)) actions in
       Under way s picks × Answered answer steps s picks (λ e stop. Reached e stop is (bytes_to_come later) written written' Told) input_rose output_rose
-      × Counts answer steps s picks count × Departs wanted place s picks count)
+      × HasCounted answer steps s picks count × Departs wanted place s picks count)
 
 -- the log is these events, where it was kept
 abbrev pub Logs : Option (List Event) → List Event → Type 0

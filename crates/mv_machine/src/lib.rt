@@ -38,11 +38,11 @@ mod operator;
 mod patching;
 mod plans;
 pub mod registers;
+mod run_loop;
 mod starting;
-mod turning;
 
 pub use engine::Engine;
 pub use machine::{Machine, Report, Stopped};
 pub use operator::Operator;
 pub use patching::{adopt, is_known, refuse};
-pub use turning::turn;
+pub use run_loop::turn;

@@ -7,7 +7,7 @@ ghost use Rattle.mv_fetch.specs.Held.{load};
 ghost use Rattle.mv_io.specs.Outside.{Rose, CountAfter};
 ghost use Rattle.mv_probe.specs.Hearing.{hearing, IsPatient, object_at, Becomes};
 ghost use Rattle.mv_probe.specs.Fates.{Fates};
-ghost use Rattle.mv_machine.specs.Actions.{fits};
+ghost use Rattle.mv_machine.specs.Actions.{fits_rows};
 ghost use Rattle.mv_machine.specs.Acts.{polls_of};
 ghost use Rattle.mv_machine.specs.Runs.{first};
 ghost use Rattle.mv_machine.specs.Snapshots.{kept, Logs, Ran, Unless, last_of, is_input_fault, is_output_fault};
@@ -15,7 +15,7 @@ ghost use Rattle.mv_machine.specs.Snapshots.{kept, Logs, Ran, Unless, last_of, i
 use crate::engine::Engine;
 use crate::logging::{events_of, log_from};
 use crate::operator::Operator;
-use crate::turning::walk;
+use crate::run_loop::walk;
 use mv_bindings::action::Action;
 use mv_bindings::binding::{Binding, Event};
 use mv_image::Image;
@@ -107,7 +107,7 @@ impl Machine {
         actions: &[Action],
     ) -> Report
         requires patient { All (λ probe. IsPatient (hearing (told probe) (patience probe))) probes.old.items }
-        requires fit { All (λ action. IsTrue (fits self.old.image.switches action)) actions.now }
+        requires fit { All (λ action. IsTrue (fits_rows self.old.image.switches action)) actions.now }
 
         ensures runs { Unless self.old.last ((events : List Event) × Logs result.log events × Ran steps result.stopped result.executed places result.departed self.old self.new actions.now
             (I.left source.old) (I.left source.new) (O.written sink.old) (O.written sink.new) (way oracle.old) (way oracle.new)

@@ -85,8 +85,11 @@ module _ (p : Program) (lesser greater : Context) (rises : ContextRises lesser g
       let there : Frame → Frame = λ f. record f { locals = slice_set f.locals l (replicate (size_of f.locals l) 0) } in
       let work : Frame → ℕ → ℕ = λ f n. if own then size f else size f - n in
       let same_length : length (map (value_of p lesser) es) ≡ length (map (value_of p greater) es) = length-map es (value_of p lesser) ∙ sym (length-map es (value_of p greater)) in
-      let at : (f : Frame) → Rises (counted (work f (length (map (value_of p lesser) es))) (put_values l 0 (map (value_of p lesser) es))) (counted (work f (length (map (value_of p greater) es))) (put_values l 0 (map (value_of p greater) es))) = λ f.
-      subst (λ n. Rises (counted (work f (length (map (value_of p lesser) es))) (put_values l 0 (map (value_of p lesser) es))) (counted (work f n) (put_values l 0 (map (value_of p greater) es)))) same_length
+      let at : (f : Frame) →
+      Rises (counted (work f (length (map (value_of p lesser) es))) (put_values l 0 (map (value_of p lesser) es)))
+      (counted (work f (length (map (value_of p greater) es))) (put_values l 0 (map (value_of p greater) es))) = λ f.
+      subst (λ n. Rises (counted (work f (length (map (value_of p lesser) es))) (put_values l 0 (map (value_of p lesser) es)))
+      (counted (work f n) (put_values l 0 (map (value_of p greater) es)))) same_length
       (rises_counted (work f (length (map (value_of p lesser) es))) _ _ (rises_put l 0 es)) in
       record { grows = λ f w. (at f).grows (there f) w; on = λ f w. (at f).on (there f) w }
 

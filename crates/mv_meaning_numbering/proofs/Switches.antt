@@ -1,6 +1,7 @@
 -- Switches are integers: bound values and what a commit reads are the same under two numberings.
-use Rattle.std.proofs.Common.{◌≡◌, ℕ, suc, Bool, true, false, List, [], ◌∷◌, ◌++◌, refl, ◌∙◌, ap, ap₂, subst, arith, Option, Some, None, if◌then◌else◌, nat_eq, slice_get}
+use Rattle.std.proofs.Common.{◌≡◌, ℕ, suc, Bool, true, false, List, [], ◌∷◌, ◌++◌, refl, ◌∙◌, ap, ap₂, subst, Option, Some, None, if◌then◌else◌, nat_eq, slice_get}
 use Rattle.std.specs.Prelude.{All}
+use Rattle.std.proofs.lemmas.Bool.{eqb-true}
 use Rattle.std.proofs.lemmas.List.Elements.{All-filter}
 use Rattle.std.proofs.lemmas.Option.{slice_get_within, get_or_from_slice_get}
 use Rattle.mv_ast.specs.declared.program.CType.{CType}
@@ -34,12 +35,9 @@ module _ (p : Program) (g : ℕ) (t : CType) (typed : slice_get (global_types p)
       let b : slice_get (global_types p) g ≡ Some h.ctype = ap (slice_get (global_types p)) e ∙ a in
       let c : h.ctype ≡ t = cc in subst IsInteger c h.integer
 
-  equal_numbers : (a b : ℕ) → nat_eq a b ≡ true → a ≡ b
-  equal_numbers a b e = grind (arith, e)
-
   among_step : (s : ℕ) (b : Bool) (rest : Option ℕ) (v k : ℕ) → IsIntegerSwitch p s → nat_eq g (switch_global p s) ≡ b →
       (rest ≡ Some k → IsInteger t) → (if b then Some v else rest) ≡ Some k → IsInteger t
-  among_step s true rest v k h e other q = switch_integer s h (equal_numbers g (switch_global p s) e)
+  among_step s true rest v k h e other q = switch_integer s h (eqb-true g (switch_global p s) e)
   among_step s false rest v k h e other q = other q
 
   among_integer : (ss vs : List ℕ) (k : ℕ) → All (IsIntegerSwitch p) ss → value_among p g ss vs ≡ Some k → IsInteger t

@@ -54,4 +54,20 @@ apart_known_stm r k args r' k' args' e = let h : stm.Known r k args ≡ stm.Know
 pub apart_return_stm : (v : Tree) (v' : Tree) → at.Return v ≡ at.Return v' → (v ≡ v')
 apart_return_stm v v' e = let h : stm.Return v ≡ stm.Return v' = sym (outs-Return v) ∙ ap out-Stm e ∙ outs-Return v' in cc
 
-pub ruleset apart_stms = (apart_set_stm, apart_setglobal_stm, apart_divide_stm, apart_check_stm, apart_read_stm, apart_write_stm, apart_zero_stm, apart_if_stm, apart_loop_stm, apart_block_stm, apart_break_stm, apart_back_stm, apart_call_stm, apart_known_stm, apart_return_stm)
+pub ruleset apart_stms = (
+  apart_set_stm,
+  apart_setglobal_stm,
+  apart_divide_stm,
+  apart_check_stm,
+  apart_read_stm,
+  apart_write_stm,
+  apart_zero_stm,
+  apart_if_stm,
+  apart_loop_stm,
+  apart_block_stm,
+  apart_break_stm,
+  apart_back_stm,
+  apart_call_stm,
+  apart_known_stm,
+  apart_return_stm,
+)

@@ -98,7 +98,8 @@ module _ (domains : List Domain) where
         (0, lt, λ d. e)
     some_in (r ∷ rows) (g ∷ guards) vs v w l (inr h) = in_behind vs r.assignment.values (all_values rows) (some_in rows guards vs v w.1 l.1 h)
 
-    in_some : (rows : List Bound) (guards : List Guarded) (vs : List ℕ) → AllValues rows → Leads bodies rows guards → (i : ℕ) → i < length (all_values rows) → ((d : List ℕ) → slice_index_or (all_values rows) i d ≡ vs) → SomeHolds domains guards vs
+    in_some : (rows : List Bound) (guards : List Guarded) (vs : List ℕ) → AllValues rows → Leads bodies rows guards → (i : ℕ) →
+        i < length (all_values rows) → ((d : List ℕ) → slice_index_or (all_values rows) i d ≡ vs) → SomeHolds domains guards vs
     in_some [] guards vs w l i lt e = absurd (omega arith)
     in_some (r ∷ rows) [] vs w l i lt e = absurd l
     in_some (r ∷ rows) (g ∷ guards) vs w l zero lt e =

@@ -205,9 +205,11 @@ module _ (n : ℕ) (J C : Expressions) (P : Readers) (self : (r : Nonterminal) �
       (λ x. given refl)))
       (ended (but_two (is_mark 7) (is_mark 5) _ (at_mark 7 _ refl (λ _ _. refl)) (at_mark 5 _ refl (λ _ _. refl)))))
 
-  enumerators_exact : (b : ℕ) (before : Terminal → Bool) → ((t : Terminal) → is_mark 4 t ≡ true → before t ≡ false) → Exact (Room n b) before (L.braced_list (G.enumerator J)) (L.braced_list (G.enumerator C)) (R.braced_list n (M.enumerator P)) (λ _. none)
+  enumerators_exact : (b : ℕ) (before : Terminal → Bool) → ((t : Terminal) → is_mark 4 t ≡ true → before t ≡ false) →
+      Exact (Room n b) before (L.braced_list (G.enumerator J)) (L.braced_list (G.enumerator C)) (R.braced_list n (M.enumerator P)) (λ _. none)
   enumerators_exact b before apart =
-      braced_exact n (b + 3) never_in_braces is_name (λ t h. not_all_but t h) (G.enumerator J) (G.enumerator C) (M.enumerator P) (enumerator_leads J) (enumerator_leads C) (at_name _ (λ _ _. refl)) (omega arith) (enumerator_exact (b + 3)) b (omega arith) before apart
+      braced_exact n (b + 3) never_in_braces is_name (λ t h. not_all_but t h) (G.enumerator J) (G.enumerator C) (M.enumerator P) (enumerator_leads J)
+      (enumerator_leads C) (at_name _ (λ _ _. refl)) (omega arith) (enumerator_exact (b + 3)) b (omega arith) before apart
     where
       not_all_but : (t : Terminal) → closes t ≡ true → never_in_braces t ≡ false
       not_all_but t h = ap (λ v. not v) h
@@ -229,10 +231,17 @@ module _ (n : ℕ) (J C : Expressions) (P : Readers) (self : (r : Nonterminal) �
 
   attribute_exact : (b : ℕ) (before : Terminal → Bool) → ((t : Terminal) → is_keyword 21 t ≡ true → before t ≡ false) → Exact (Room n b) before (G.attribute J) (G.attribute C) (M.attribute n P) (λ _. none)
   attribute_exact b before apart =
-      first (taken (sample (Keyword 21)) refl apart) (λ t. first (taken (sample (Mark 0)) refl (λ _ _. refl)) (λ _. first (taken (sample (Mark 0)) refl (λ _ _. refl)) (λ _. first (taken multiverse refl (λ _ _. refl)) (λ _.
-      after_in (λ xs. apart_leads never_in_parameters (is_mark 1) _ (λ _. none) none (leads_first (is_mark 1)) (at_mark 1 _ refl (λ _ _. refl)))
-      (picked (leads_then (is_mark 0) _ _ (leads_first (is_mark 0))) (after (domain_exact (b + 3 + 3 + 3 + 3) none (λ _ _. refl)) (λ xs. given refl)) (ended (λ t h. at_mark 1 (either none (is_mark 0)) refl (λ _ _. refl) t (of_all_but (is_mark 1) t h))))
-      (λ xs. first (taken (sample (Mark 1)) refl (λ _ _. refl)) (λ _. first (taken (sample (Mark 1)) refl (λ _ _. refl)) (λ _. given refl)))))))
+      first (taken (sample (Keyword 21)) refl apart)
+      (λ t. first (taken (sample (Mark 0)) refl (λ _ _. refl))
+      (λ _. first (taken (sample (Mark 0)) refl (λ _ _. refl))
+      (λ _. first (taken multiverse refl (λ _ _. refl))
+      (λ _. after_in (λ xs.
+      apart_leads never_in_parameters (is_mark 1) _ (λ _. none) none (leads_first (is_mark 1)) (at_mark 1 _ refl (λ _ _. refl)))
+      (picked (leads_then (is_mark 0) _ _ (leads_first (is_mark 0)))
+      (after (domain_exact (b + 3 + 3 + 3 + 3) none (λ _ _. refl)) (λ xs. given refl))
+      (ended (λ t h. at_mark 1 (either none (is_mark 0)) refl (λ _ _. refl) t (of_all_but (is_mark 1) t h))))
+      (λ xs. first (taken (sample (Mark 1)) refl (λ _ _. refl))
+      (λ _. first (taken (sample (Mark 1)) refl (λ _ _. refl)) (λ _. given refl)))))))
 
   specifier_exact : (b : ℕ) (s : Specs) → ExactIn (Room n b) (is_mark 4) none (G.specifier J s) (G.specifier C s) (M.specifier n P s) (λ _. none)
   specifier_exact b s =
@@ -300,10 +309,15 @@ module _ (n : ℕ) (J C : Expressions) (P : Readers) (self : (r : Nonterminal) �
 
     direct_exact : (b : ℕ) → 1 ≤ b → ExactIn (Room n b) never_suffix none (G.direct J PJ) (G.direct C PC) (M.direct P PP) (λ _. none)
     direct_exact b l =
-        exact_same (Room n b) never_suffix none (factored_direct J PJ) (factored_direct C PC) (G.direct J PJ) (G.direct C PC) (M.direct P PP) (λ _. none) (direct_of_factored J PJ) (factored_of_direct C PC)
-        (picked (leads_first is_name) (first (taken (sample Name) refl (λ _ _. refl)) (λ t.
-        picked (leads_then (is_mark 0) _ _ (leads_first (is_mark 0))) (after (parameter_list_exact (b + 3) (omega arith) none (λ _ _. refl)) (λ xs. given refl))
-        (after_in (λ m. apart_give never_suffix (G.declarator_of t.place (Some t.spelling) (G.array_shape m)) (λ _. none)) (extents_exact (b + 3) never_suffix (either none (is_mark 0)) (at_mark 2 _ refl (λ _ _. refl)) (λ t h. h)) (λ m. given refl))))
+        exact_same (Room n b) never_suffix none (factored_direct J PJ) (factored_direct C PC) (G.direct J PJ) (G.direct C PC) (M.direct P PP)
+        (λ _. none) (direct_of_factored J PJ) (factored_of_direct C PC)
+        (picked (leads_first is_name)
+        (first (taken (sample Name) refl (λ _ _. refl))
+        (λ t. picked (leads_then (is_mark 0) _ _ (leads_first (is_mark 0)))
+        (after (parameter_list_exact (b + 3) (omega arith) none (λ _ _. refl)) (λ xs. given refl))
+        (after_in (λ m. apart_give never_suffix (G.declarator_of t.place (Some t.spelling) (G.array_shape m)) (λ _. none))
+        (extents_exact (b + 3) never_suffix (either none (is_mark 0)) (at_mark 2 _ refl (λ _ _. refl)) (λ t h. h))
+        (λ m. given refl))))
         (after_nothing (pointer_exact b _ (at_mark 0 _ refl (λ _ _. refl)))))
       where
         after_nothing : {before : Terminal → Bool} → Exact (Room n b) before (pointer J PJ) (pointer C PC) (M.pointer P PP) (λ _. none) → ExactIn (Room n b) never_suffix before (pointer J PJ) (pointer C PC) (M.pointer P PP) (λ _. none)
@@ -332,11 +346,16 @@ module _ (n : ℕ) (J C : Expressions) (P : Readers) (self : (r : Nonterminal) �
     parameter_name_exact b s =
         picked (leads_first is_name) (first (taken (sample Name) refl (at_name _ (λ _ _. refl))) (λ t. given refl))
         (picked (leads_first (is_mark 0))
-        (first (taken (sample (Mark 0)) refl (at_mark 0 _ refl (λ _ _. refl))) (λ t. first (taken (sample (Mark 14)) refl (λ _ _. refl)) (λ _.
-        after_in (λ c. apart_leads (is_keyword 4) (either is_name (is_mark 1)) _ (λ _. none) never_in_list (name_leads _ (λ _. leads_wider (at_mark 1 _ refl (λ _ _. refl)))) (at_either is_name (is_mark 1) _ (at_name _ (λ _ _. refl)) (at_mark 1 _ refl (λ _ _. refl)))) (constant_exact (b + 3 + 3)) (λ c.
-        after_in (λ name. apart_leads is_name (is_mark 1) _ (λ _. none) never_in_list (leads_first (is_mark 1)) (at_mark 1 _ refl (λ _ _. refl)))
+        (first (taken (sample (Mark 0)) refl (at_mark 0 _ refl (λ _ _. refl)))
+        (λ t. first (taken (sample (Mark 14)) refl (λ _ _. refl))
+        (λ _. after_in (λ c. apart_leads (is_keyword 4) (either is_name (is_mark 1)) _ (λ _. none) never_in_list
+        (name_leads _ (λ _. leads_wider (at_mark 1 _ refl (λ _ _. refl))))
+        (at_either is_name (is_mark 1) _ (at_name _ (λ _ _. refl)) (at_mark 1 _ refl (λ _ _. refl)))) (constant_exact (b + 3 + 3))
+        (λ c. after_in (λ name. apart_leads is_name (is_mark 1) _ (λ _. none) never_in_list (leads_first (is_mark 1))
+        (at_mark 1 _ refl (λ _ _. refl)))
         (picked (leads_first is_name) (first (taken (sample Name) refl (λ _ _. refl)) (λ t. given refl)) (ended (λ t h. h)))
-        (λ name. first (taken (sample (Mark 1)) refl (λ _ _. refl)) (λ _. after (parameter_list_exact (b + 3 + 3 + 3) (omega arith) none (λ _ _. refl)) (λ xs. given refl)))))))
+        (λ name. first (taken (sample (Mark 1)) refl (λ _ _. refl))
+        (λ _. after (parameter_list_exact (b + 3 + 3 + 3) (omega arith) none (λ _ _. refl)) (λ xs. given refl)))))))
         (ended (but_two (is_mark 7) (is_mark 1) _ (at_mark 7 _ refl (λ _ _. refl)) (at_mark 1 _ refl (λ _ _. refl)))))
 
     parameter_exact : (b : ℕ) → 0 < b → ExactIn (Room n b) never_in_list none (G.parameter J PJ) (G.parameter C PC) (M.parameter n P PP) (λ _. none)

@@ -78,7 +78,8 @@ never_shorter t q r e = omega (arith, ap length e, length-append r (t ∷ q))
 
 -- give
 
-give_judged : {X : Type 0} (x : X) (before : Terminal → Bool) (more : X → Terminal → Bool) → ((t : Terminal) → before t ≡ false → more x t ≡ false) → (ts : List Terminal) (o : Option X) (r : List Terminal) → Free before ts → Ends (Some x) ts ≡ Ends o r → Judged (L.give x) more ts o r
+give_judged : {X : Type 0} (x : X) (before : Terminal → Bool) (more : X → Terminal → Bool) → ((t : Terminal) → before t ≡ false → more x t ≡ false) →
+    (ts : List Terminal) (o : Option X) (r : List Terminal) → Free before ts → Ends (Some x) ts ≡ Ends o r → Judged (L.give x) more ts o r
 give_judged x before more stops ts (Some y) r h e =
     let same : x ≡ y = cc in
     let rest : ts ≡ r = cc in
@@ -92,7 +93,9 @@ give_local x b t q q' o r e =
     let front : b ≡ r = append_cancel_right b r (t ∷ q) rest in
     ap (λ z. Ends z (b ++ (t ∷ q'))) same ∙ ap (λ z. Ends o (z ++ (t ∷ q'))) front
 
-give_clean : {X : Type 0} (x : X) (never before : Terminal → Bool) (more : X → Terminal → Bool) → ((t : Terminal) → more x t ≡ false → never t ≡ false → before t ≡ false) → (y : X) (b r : List Terminal) → IsGiven x y b → Free (more y) r → Free never r → Free before (b ++ r)
+give_clean : {X : Type 0} (x : X) (never before : Terminal → Bool) (more : X → Terminal → Bool) →
+    ((t : Terminal) → more x t ≡ false → never t ≡ false → before t ≡ false) → (y : X) (b r : List Terminal) → IsGiven x y b → Free (more y) r →
+    Free never r → Free before (b ++ r)
 give_clean x never before more clears y b [] c h k = ap (λ z. next before (z ++ [])) c.empty
 give_clean x never before more clears y b (t ∷ r) c h k = ap (λ z. next before (z ++ (t ∷ r))) c.empty ∙ clears t (ap (λ z. more z t) (sym c.value) ∙ h) k
 
@@ -129,7 +132,8 @@ token_judged test sample good (t ∷ q) o r e = go (test t) refl o e
     go false k None e =
         record { front = []; rest = sample ∷ []; value = sample; whole = cc; phrase = record { one = refl; kind = good } }
 
-token_local : (test : Terminal → Bool) (b : List Terminal) (t : Terminal) (q q' : List Terminal) (o : Option Terminal) (r : List Terminal) → R.token test (b ++ (t ∷ q)) ≡ Ends o (r ++ (t ∷ q)) → R.token test (b ++ (t ∷ q')) ≡ Ends o (r ++ (t ∷ q'))
+token_local : (test : Terminal → Bool) (b : List Terminal) (t : Terminal) (q q' : List Terminal) (o : Option Terminal) (r : List Terminal) →
+    R.token test (b ++ (t ∷ q)) ≡ Ends o (r ++ (t ∷ q)) → R.token test (b ++ (t ∷ q')) ≡ Ends o (r ++ (t ∷ q'))
 token_local test [] t q q' o r e = go (test t) o e
   where
     go : (v : Bool) → (o : Option Terminal) → cond v (Ends (Some t) q) (Ends None (t ∷ q)) ≡ Ends o (r ++ (t ∷ q)) → cond v (Ends (Some t) q') (Ends None (t ∷ q')) ≡ Ends o (r ++ (t ∷ q'))
@@ -169,7 +173,8 @@ token_total test (t ∷ q) e = go (test t) e
     go true e = absurd (cc)
     go false e = absurd (cc)
 
-pub exact_token : (K : ℕ → Type 0) (never before test : Terminal → Bool) (sample : Terminal) → test sample ≡ true → ((t : Terminal) → test t ≡ true → before t ≡ false) → ExactIn K never before (L.token test) (L.token test) (R.token test) (λ _ _. false)
+pub exact_token : (K : ℕ → Type 0) (never before test : Terminal → Bool) (sample : Terminal) → test sample ≡ true →
+    ((t : Terminal) → test t ≡ true → before t ≡ false) → ExactIn K never before (L.token test) (L.token test) (R.token test) (λ _ _. false)
 exact_token K never before test sample good apart = record {
   judged = λ ts o r h e. token_judged test sample good ts o r e;
   local = λ b t q q' o r h e. token_local test b t q q' o r e;
@@ -219,7 +224,9 @@ module _ {X Y : Type 0} (K K2 : ℕ → Type 0) (never_first never before : Term
       let u : Got A inner ts x s = a.judged ts (Some x) s h k in
       joined ts x s o r u ((g x).judged s o r u.stop e)
 
-  then_local : (b : List Terminal) (t : Terminal) (q q' : List Terminal) (o : Option Y) (r : List Terminal) (read : Read X) → Free before (b ++ (t ∷ q)) → p (b ++ (t ∷ q)) ≡ read → go_on f read ≡ Ends o (r ++ (t ∷ q)) → go_on f (p (b ++ (t ∷ q'))) ≡ Ends o (r ++ (t ∷ q'))
+  then_local : (b : List Terminal) (t : Terminal) (q q' : List Terminal) (o : Option Y) (r : List Terminal) (read : Read X) →
+      Free before (b ++ (t ∷ q)) → p (b ++ (t ∷ q)) ≡ read → go_on f read ≡ Ends o (r ++ (t ∷ q)) →
+      go_on f (p (b ++ (t ∷ q'))) ≡ Ends o (r ++ (t ∷ q'))
   then_local b t q q' o r Deep h k e = absurd (cc)
   then_local b t q q' o r (Ends None s) h k e =
       let same : s ≡ r ++ (t ∷ q) = cc in

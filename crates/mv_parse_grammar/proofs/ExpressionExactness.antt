@@ -130,9 +130,11 @@ module _ (S : Expressions) (ls : Leads starts (S Assign)) where
 
   pub unary_no_cast : (x : Node) (b r : List Terminal) → G.unary S x b → next_two (is_mark 0) is_type_part (b ++ r) ≡ false
   unary_no_cast x b r (inl c) =
-      ap (λ z. next_two (is_mark 0) is_type_part (z ++ r)) (c.whole ∙ ap (λ z. z ++ c.back) c.first.one) ∙ not_first (is_mark 0) is_type_part c.middle c.back r (at_class steps (is_mark 0) (λ _ _ _ _ _. refl) c.middle (in_steps c.middle c.first.kind))
+      ap (λ z. next_two (is_mark 0) is_type_part (z ++ r)) (c.whole ∙ ap (λ z. z ++ c.back) c.first.one) ∙
+      not_first (is_mark 0) is_type_part c.middle c.back r (at_class steps (is_mark 0) (λ _ _ _ _ _. refl) c.middle (in_steps c.middle c.first.kind))
   unary_no_cast x b r (inr (inl c)) =
-      ap (λ z. next_two (is_mark 0) is_type_part (z ++ r)) (c.whole ∙ ap (λ z. z ++ c.back) c.first.one) ∙ not_first (is_mark 0) is_type_part c.middle c.back r (at_class signs (is_mark 0) (λ _ _ _ _ _. refl) c.middle (in_signs c.middle c.first.kind))
+      ap (λ z. next_two (is_mark 0) is_type_part (z ++ r)) (c.whole ∙ ap (λ z. z ++ c.back) c.first.one) ∙
+      not_first (is_mark 0) is_type_part c.middle c.back r (at_class signs (is_mark 0) (λ _ _ _ _ _. refl) c.middle (in_signs c.middle c.first.kind))
   unary_no_cast x b r (inr (inr c)) =
       ap (λ z. next_two (is_mark 0) is_type_part (z ++ r)) c.whole ∙ (ap (next_two (is_mark 0) is_type_part) (append_assoc c.front c.back r) ∙ primary_no_cast c.middle.1 c.front (c.back ++ r) c.first.phrase)
 
@@ -207,7 +209,10 @@ module _ (n : ℕ) (J C : Expressions) (P : Readers) (self : (r : Nonterminal) �
       let e : m ≡ c.middle ∷ h.head ∷ (h.tail ++ d.back) = c.whole ∙ (ap (λ z. z ++ c.back) c.first.one ∙ ap (λ z. c.middle ∷ z) (d.whole ∙ ap (λ z. z ++ d.back) h.whole)) in
       ap (λ z. next_two (is_mark 0) is_type_part (z ++ r)) e ∙ (ap (λ v. v && is_type_part h.head) c.first.kind ∙ h.kind)
 
-  typed_shrinks : (t : Terminal) (ts : List Terminal) (o : Option Node) (s : List Terminal) → (R.◌>>=◌ (M.type_name n) (λ s. R.◌>>=◌ (R.token (is_mark 1)) (λ _. R.◌>>=◌ (P Cast) (λ x. R.give (G.node_at t.place (w.Cast s x)))))) ts ≡ Ends o s → length s ≤ length ts
+  typed_shrinks : (t : Terminal) (ts : List Terminal) (o : Option Node) (s : List Terminal) →
+      (R.◌>>=◌ (M.type_name n) (λ s. R.◌>>=◌ (R.token (is_mark 1)) (λ _. R.◌>>=◌ (P Cast) (λ x. R.give (G.node_at t.place (w.Cast s x)))))) ts ≡
+      Ends o s →
+      length s ≤ length ts
   typed_shrinks t ts (Some x) s e = let j = (typed_rest_exact t).judged ts (Some x) s (none_next ts) e in omega (arith, ap length j.whole, length-append j.front s)
   typed_shrinks t ts None s e = let j = (typed_rest_exact t).judged ts None s (none_next ts) e in omega (arith, ap length j.whole, length-append j.front s)
 
@@ -266,7 +271,14 @@ name_unary S = inr (inr (record {
   back = [];
   whole = refl;
   first = record { place = refl; phrase = inl (record { middle = sample Name; front = sample Name ∷ []; back = []; whole = refl; first = record { one = refl; kind = refl }; second = record { value = refl; empty = refl } }) };
-  second = record { middle = (place_of (sample Name ∷ []), G.name_node (sample Name)); front = []; back = []; whole = refl; first = record { count = zero; phrases = record { value = refl; empty = refl } }; second = record { value = refl; empty = refl } };
+  second = record {
+    middle = (place_of (sample Name ∷ []), G.name_node (sample Name));
+    front = [];
+    back = [];
+    whole = refl;
+    first = record { count = zero; phrases = record { value = refl; empty = refl } };
+    second = record { value = refl; empty = refl };
+  };
 }))
 
 any_unary : (m : ℕ) → Any (G.phrase (suc m) Unary)

@@ -231,7 +231,8 @@ any_tail A xs = record {
 
 module _ {X : Type 0} (n b : ℕ) (never test : Terminal → Bool) (closing : (t : Terminal) → closes t ≡ true → never t ≡ false) (A A' : X → List Terminal → Type 0) (p : List Terminal → Read X)
     (leads : Leads test A) (leads' : Leads test A') (apart : (t : Terminal) → test t ≡ true → is_mark 5 t ≡ false) (a : ExactIn (Room n b) never none A A' p (λ _. none)) where
-  closed_exact : (k : ℕ) (xs : List X) (before : Terminal → Bool) → ((t : Terminal) → is_mark 5 t ≡ true → before t ≡ false) → Exact (λ l. Room n b l × (l < k)) before (Closed xs) (Closed xs) (R.◌>>=◌ (R.token (is_mark 5)) (λ _. R.give xs)) (λ _. none)
+  closed_exact : (k : ℕ) (xs : List X) (before : Terminal → Bool) → ((t : Terminal) → is_mark 5 t ≡ true → before t ≡ false) →
+      Exact (λ l. Room n b l × (l < k)) before (Closed xs) (Closed xs) (R.◌>>=◌ (R.token (is_mark 5)) (λ _. R.give xs)) (λ _. none)
   closed_exact k xs before h =
       exact_then (λ l. Room n b l × (l < k)) (λ l. Room n b l × (l < k)) none none before (L.token (is_mark 5)) (L.token (is_mark 5)) (R.token (is_mark 5)) (λ _ _. false) (λ _. L.give xs) (λ _. L.give xs) (λ _. R.give xs) (λ _. none)
       (exact_token (λ l. Room n b l × (l < k)) none before (is_mark 5) (sample (Mark 5)) refl h) (λ t. given refl) (λ t. apart_none (L.give xs) (λ _. none) none)
@@ -239,21 +240,30 @@ module _ {X : Type 0} (n b : ℕ) (never test : Terminal → Bool) (closing : (t
 
   -- with a bound on the turns
   closing_of : (k : ℕ) (xs : List X) → Exact (λ l. Room n b l × (l < k)) none (Tail A xs) (Tail A' xs) (R.closing k p xs) (λ _. none)
-  closing_of zero xs = exact_deep (λ l. Room n b l × (l < zero)) none none (Tail A xs) (Tail A' xs) (λ _. none) (λ x m r c h k. apart_none (Tail A' xs) (λ _. none) none x m r c h k) (any_tail A xs) (λ ts h. let e : length ts < zero = h.1 in omega arith)
+  closing_of zero xs =
+      exact_deep (λ l. Room n b l × (l < zero)) none none (Tail A xs) (Tail A' xs) (λ _. none)
+      (λ x m r c h k. apart_none (Tail A' xs) (λ _. none) none x m r c h k) (any_tail A xs) (λ ts h. let e : length ts < zero = h.1 in omega arith)
   closing_of (suc k) xs =
-      exact_same (λ l. Room n b l × (l < suc k)) none none (Factored A xs) (Factored A' xs) (Tail A xs) (Tail A' xs) (R.closing (suc k) p xs) (λ _. none) (tail_of A xs) (opened_tail A' xs)
-      (exact_choice (λ l. Room n b l × (l < suc k)) none none (is_mark 7) (either none (is_mark 7)) (Commad A xs) (Commad A' xs) (Closed xs) (Closed xs) _ _ (λ _. none)
-      (λ t h i. or_none (none t) (is_mark 7 t) h i) (λ t h. or_parts (none t) (is_mark 7 t) h) (leads_first (is_mark 7))
-      (exact_then (λ l. Room n b l × (l < suc k)) (λ l. Room n b l × (l < k)) none none none (L.token (is_mark 7)) (L.token (is_mark 7)) (R.token (is_mark 7)) (λ _ _. false) _ _ _ (λ _. none)
+      exact_same (λ l. Room n b l × (l < suc k)) none none (Factored A xs) (Factored A' xs) (Tail A xs) (Tail A' xs) (R.closing (suc k) p xs)
+      (λ _. none) (tail_of A xs) (opened_tail A' xs)
+      (exact_choice (λ l. Room n b l × (l < suc k)) none none (is_mark 7) (either none (is_mark 7)) (Commad A xs) (Commad A' xs) (Closed xs)
+      (Closed xs) _ _ (λ _. none) (λ t h i. or_none (none t) (is_mark 7 t) h i) (λ t h. or_parts (none t) (is_mark 7 t) h)
+      (leads_first (is_mark 7))
+      (exact_then (λ l. Room n b l × (l < suc k)) (λ l. Room n b l × (l < k)) none none none (L.token (is_mark 7)) (L.token (is_mark 7))
+      (R.token (is_mark 7)) (λ _ _. false) _ _ _ (λ _. none)
       (exact_token (λ l. Room n b l × (l < suc k)) none none (is_mark 7) (sample (Mark 7)) refl (λ _ _. refl))
       (λ t. picked (leads_first (is_mark 5)) (closed_exact k xs none (λ _ _. refl))
-      (exact_then (λ l. Room n b l × (l < k)) (λ l. Room n b l × (l < k)) never none (either none (is_mark 5)) A A' p (λ _. none) _ _ _ (λ _. none)
-      (exact_before (λ l. Room n b l × (l < k)) never (either none (is_mark 5)) test A A' p (λ _. none) (exact_room (λ l. Room n b l × (l < k)) (Room n b) never none A A' p (λ _. none) (λ l h. h.0) a) leads' (λ t h. apart t h))
+      (exact_then (λ l. Room n b l × (l < k)) (λ l. Room n b l × (l < k)) never none (either none (is_mark 5)) A A' p (λ _. none) _ _ _
+      (λ _. none) (exact_before (λ l. Room n b l × (l < k)) never (either none (is_mark 5)) test A A' p (λ _. none)
+      (exact_room (λ l. Room n b l × (l < k)) (Room n b) never none A A' p (λ _. none) (λ l h. h.0) a) leads' (λ t h. apart t h))
       (λ x. closing_of k (xs ++ x ∷ []))
       (λ x. apart_leads never closes (Tail A' (xs ++ x ∷ [])) (λ _. none) none (tail_leads A' (xs ++ x ∷ [])) closing)
-      (λ ts x s u h. let l : length s ≤ length ts = not_longer A (λ _. none) ts x s u in let m : length ts < k = h.1 in (room_down n b (length s) (length ts) l h.0, omega arith))))
+      (λ ts x s u h. let l : length s ≤ length ts = not_longer A (λ _. none) ts x s u in
+      let m : length ts < k = h.1 in (room_down n b (length s) (length ts) l h.0, omega arith))))
       (λ t. apart_none _ (λ _. none) none)
-      (λ ts t s u h. let l : length s < length ts = shorter (is_mark 7) (L.token (is_mark 7)) (λ _ _. false) ts t s (leads_token (is_mark 7)) u in let m : length ts < suc k = h.1 in (room_down n b (length s) (length ts) (omega arith) h.0, omega arith)))
+      (λ ts t s u h. let l : length s < length ts = shorter (is_mark 7) (L.token (is_mark 7)) (λ _ _. false) ts t s (leads_token (is_mark 7))
+      u in
+      let m : length ts < suc k = h.1 in (room_down n b (length s) (length ts) (omega arith) h.0, omega arith)))
       (closed_exact (suc k) xs (either none (is_mark 7)) (at_mark 5 _ refl (λ _ _. refl))))
 
   pub closing_exact : 0 < b → (xs : List X) → Exact (Room n b) none (Tail A xs) (Tail A' xs) (R.closing n p xs) (λ _. none)
@@ -264,9 +274,24 @@ module _ {X : Type 0} (n b : ℕ) (never test : Terminal → Bool) (closing : (t
     (leads : Leads test A) (leads' : Leads test A') (apart : (t : Terminal) → test t ≡ true → is_mark 5 t ≡ false) (positive : 0 < b) (a : ExactIn (Room n b) never none A A' p (λ _. none)) where
   pub braced_exact : (c : ℕ) → b ≤ c + 3 → (before : Terminal → Bool) → ((t : Terminal) → is_mark 4 t ≡ true → before t ≡ false) → Exact (Room n c) before (L.braced_list A) (L.braced_list A') (R.braced_list n p) (λ _. none)
   braced_exact c l before h =
-      exact_same (Room n c) none before (L.◌>>=◌ (L.token (is_mark 4)) (λ _. L.◌>>=◌ A (λ x. Tail A (x ∷ [])))) (L.◌>>=◌ (L.token (is_mark 4)) (λ _. L.◌>>=◌ A' (λ x. Tail A' (x ∷ [])))) (L.braced_list A) (L.braced_list A') (R.braced_list n p) (λ _. none)
-      (λ xs ts c. record { middle = c.middle; front = c.front; back = c.back; whole = c.whole; first = c.first; second = ungroup A (λ x. L.chain (L.comma_pushed A) (x ∷ [])) _ xs c.back c.second })
-      (λ xs ts c. record { middle = c.middle; front = c.front; back = c.back; whole = c.whole; first = c.first; second = regroup A' (λ x. L.chain (L.comma_pushed A') (x ∷ [])) _ xs c.back c.second })
-      (first (taken (sample (Mark 4)) refl h) (λ _.
-      after_in (λ x. apart_leads never closes (Tail A' (x ∷ [])) (λ _. none) none (tail_leads A' (x ∷ [])) closing) (later b (c + 3) l a)
+      exact_same (Room n c) none before (L.◌>>=◌ (L.token (is_mark 4)) (λ _. L.◌>>=◌ A (λ x. Tail A (x ∷ []))))
+      (L.◌>>=◌ (L.token (is_mark 4)) (λ _. L.◌>>=◌ A' (λ x. Tail A' (x ∷ [])))) (L.braced_list A) (L.braced_list A') (R.braced_list n p) (λ _. none)
+      (λ xs ts c. record {
+        middle = c.middle;
+        front = c.front;
+        back = c.back;
+        whole = c.whole;
+        first = c.first;
+        second = ungroup A (λ x. L.chain (L.comma_pushed A) (x ∷ [])) _ xs c.back c.second;
+      })
+      (λ xs ts c. record {
+        middle = c.middle;
+        front = c.front;
+        back = c.back;
+        whole = c.whole;
+        first = c.first;
+        second = regroup A' (λ x. L.chain (L.comma_pushed A') (x ∷ [])) _ xs c.back c.second;
+      })
+      (first (taken (sample (Mark 4)) refl h)
+      (λ _. after_in (λ x. apart_leads never closes (Tail A' (x ∷ [])) (λ _. none) none (tail_leads A' (x ∷ [])) closing) (later b (c + 3) l a)
       (λ x. later b (c + 3) l (closing_exact n b never test closing A A' p leads leads' apart a positive (x ∷ [])))))

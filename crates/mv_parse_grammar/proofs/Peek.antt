@@ -37,7 +37,8 @@ module _ {X : Type 0} (K : ℕ → Type 0) (never before f g : Terminal → Bool
   none_first t [] k = refl
   none_first t (u ∷ s) k = ap (λ v. v && g u) k
 
-  two_local : (m : List Terminal) (t : Terminal) (s s' : List Terminal) (o : Option X) (r : List Terminal) → Free before (m ++ (t ∷ s)) → choice_two f g p q (m ++ (t ∷ s)) ≡ Ends o (r ++ (t ∷ s)) → choice_two f g p q (m ++ (t ∷ s')) ≡ Ends o (r ++ (t ∷ s'))
+  two_local : (m : List Terminal) (t : Terminal) (s s' : List Terminal) (o : Option X) (r : List Terminal) → Free before (m ++ (t ∷ s)) →
+      choice_two f g p q (m ++ (t ∷ s)) ≡ Ends o (r ++ (t ∷ s)) → choice_two f g p q (m ++ (t ∷ s')) ≡ Ends o (r ++ (t ∷ s'))
   two_local [] t s s' o r h e = go (f t) refl
     where
       go : (v : Bool) → f t ≡ v → choice_two f g p q (t ∷ s') ≡ Ends o (r ++ (t ∷ s'))
@@ -90,5 +91,7 @@ module _ {X : Type 0} (K : ℕ → Type 0) (f test : Terminal → Bool) (A A' : 
   moves_exact t ts None s k e = let j : Lost A (t ∷ ts) s = a.judged (t ∷ ts) None s (none_next (t ∷ ts)) e in lost_moves t ts s j.front k e j.whole
 
 -- a reader that takes a terminal first
-pub moves_token : {X : Type 0} (f : Terminal → Bool) (g : Terminal → List Terminal → Read X) → ((t : Terminal) (ts : List Terminal) (o : Option X) (s : List Terminal) → g t ts ≡ Ends o s → length s ≤ length ts) → Moves f (R.◌>>=◌ (R.token f) g)
+pub moves_token : {X : Type 0} (f : Terminal → Bool) (g : Terminal → List Terminal → Read X) →
+    ((t : Terminal) (ts : List Terminal) (o : Option X) (s : List Terminal) → g t ts ≡ Ends o s → length s ≤ length ts) →
+    Moves f (R.◌>>=◌ (R.token f) g)
 moves_token f g h t ts o s k e = h t ts o s (sym (ap (λ v. go_on g (cond v (Ends (Some t) ts) (Ends None (t ∷ ts)))) k) ∙ e)

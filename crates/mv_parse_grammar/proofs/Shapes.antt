@@ -73,7 +73,8 @@ given {X} {K} {never} {before} {x} {more} same = exact_give K never before x mor
 pub ended : {X : Type 0} {K : ℕ → Type 0} {never before : Terminal → Bool} {x : X} → ((t : Terminal) → never t ≡ false → before t ≡ false) → ExactIn K never before (L.give x) (L.give x) (R.give x) (λ _. none)
 ended {X} {K} {never} {before} {x} h = exact_give K never before x (λ _. none) (λ t k. refl) (λ t k n. h t n)
 
-pub taken : {K : ℕ → Type 0} {never before test : Terminal → Bool} (sample : Terminal) → test sample ≡ true → ((t : Terminal) → test t ≡ true → before t ≡ false) → ExactIn K never before (L.token test) (L.token test) (R.token test) (λ _ _. false)
+pub taken : {K : ℕ → Type 0} {never before test : Terminal → Bool} (sample : Terminal) → test sample ≡ true →
+    ((t : Terminal) → test t ≡ true → before t ≡ false) → ExactIn K never before (L.token test) (L.token test) (R.token test) (λ _ _. false)
 taken {K} {never} {before} {test} sample good apart = exact_token K never before test sample good apart
 
 -- after a terminal the bound has three more to spare
@@ -147,10 +148,13 @@ pub inside : {X : Type 0} {K : ℕ → Type 0} {never before : Terminal → Bool
 inside {X} {K} {never} {before} {A} {A'} {p} {more} a = exact_eased K none never before A A' p more more (λ x t k. k) (λ x t k m. (k, refl)) a
 
 -- again and again, after something was taken
-pub chained_in : {X : Type 0} {n b : ℕ} {never : Terminal → Bool} (test : Terminal → Bool) {F F' : X → X → List Terminal → Type 0} {f : X → List Terminal → Read X} (inner more : X → Terminal → Bool)
-    → 0 < b → ((t : Terminal) → test t ≡ true → never t ≡ false)
-    → ((x : X) (t : Terminal) → (inner x t ≡ false) → (test t ≡ false) → more x t ≡ false) → ((x : X) (t : Terminal) → more x t ≡ false → (inner x t ≡ false) × (test t ≡ false))
-    → ((x : X) → Leads test (F x)) → ((x : X) → Leads test (F' x)) → ((x : X) → ExactIn (Room n b) never (inner x) (F x) (F' x) (f x) inner) → (x : X) → ExactIn (Room n b) never (inner x) (L.chain F x) (L.chain F' x) (R.chain test f n x) more
+pub chained_in : {X : Type 0} {n b : ℕ} {never : Terminal → Bool} (test : Terminal → Bool) {F F' : X → X → List Terminal → Type 0}
+    {f : X → List Terminal → Read X} (inner more : X → Terminal → Bool) →
+    0 < b → ((t : Terminal) → test t ≡ true → never t ≡ false) →
+    ((x : X) (t : Terminal) → (inner x t ≡ false) → (test t ≡ false) → more x t ≡ false) →
+    ((x : X) (t : Terminal) → more x t ≡ false → (inner x t ≡ false) × (test t ≡ false)) → ((x : X) → Leads test (F x)) →
+    ((x : X) → Leads test (F' x)) → ((x : X) → ExactIn (Room n b) never (inner x) (F x) (F' x) (f x) inner) → (x : X) →
+    ExactIn (Room n b) never (inner x) (L.chain F x) (L.chain F' x) (R.chain test f n x) more
 chained_in {X} {n} {b} {never} test {F} {F'} {f} inner more l apart wide narrow leads leads' step x =
     exact_chain (Room n b) (room_down n b) never test F F' f inner more apart wide narrow leads leads' step n x (λ k h. let m : 3 * k + b ≤ n = h.enough in omega arith)
 
@@ -160,9 +164,11 @@ pub chained : {X : Type 0} {n b : ℕ} (test : Terminal → Bool) {F F' : X → 
 chained test inner more l wide narrow leads leads' step x = chained_in test inner more l (λ t h. refl) wide narrow leads leads' step x
 
 -- again and again, where the phrases leave nothing open: what goes on is another of them
-pub repeated : {X : Type 0} {n b : ℕ} {never : Terminal → Bool} (test : Terminal → Bool) {F F' : X → X → List Terminal → Type 0} {f : X → List Terminal → Read X}
-    → 0 < b → ((t : Terminal) → test t ≡ true → never t ≡ false)
-    → ((x : X) → Leads test (F x)) → ((x : X) → Leads test (F' x)) → ((x : X) → ExactIn (Room n b) never none (F x) (F' x) (f x) (λ _. none)) → (x : X) → ExactIn (Room n b) never none (L.chain F x) (L.chain F' x) (R.chain test f n x) (λ _. test)
+pub repeated : {X : Type 0} {n b : ℕ} {never : Terminal → Bool} (test : Terminal → Bool) {F F' : X → X → List Terminal → Type 0}
+    {f : X → List Terminal → Read X} →
+    0 < b → ((t : Terminal) → test t ≡ true → never t ≡ false) → ((x : X) → Leads test (F x)) → ((x : X) → Leads test (F' x)) →
+    ((x : X) → ExactIn (Room n b) never none (F x) (F' x) (f x) (λ _. none)) → (x : X) →
+    ExactIn (Room n b) never none (L.chain F x) (L.chain F' x) (R.chain test f n x) (λ _. test)
 repeated test l apart leads leads' step x = chained_in test (λ _. none) (λ _. test) l apart (λ _ t h k. k) (λ _ t h. (refl, h)) leads leads' step x
 
 pub guarded : {X : Type 0} {K : ℕ → Type 0} {Q : Type 0} {never before test : Terminal → Bool} {A A' B B' : X → List Terminal → Type 0} {p q : List Terminal → Read X} {more : X → Terminal → Bool} (wider : Terminal → Bool)

@@ -148,7 +148,9 @@ module _ (n : ℕ) (J C : Expressions) (P : Readers) (self : (r : Nonterminal) �
   block_item_exact b l = picked ldc (later 4 b l d) (exact_before (Room n b) none _ begins_statement TJ TC PT more_line (later 4 b l t) ltc (at_class statement_class _ (λ _ _ _ _ _. refl)))
 
   block_item_leads : (D T : Lines) → Leads is_specifier D → Leads begins_statement T → Leads begins_item (L.◌or◌ D T)
-  block_item_leads D T ld lt = leads_or begins_item D T (leads_any is_specifier begins_item D (at_in specifiers in_specifiers _ (λ _ _ _ _ _. refl)) ld) (leads_any begins_statement begins_item T (wider statement_class item_class (λ _ _ _ _ _. refl)) lt)
+  block_item_leads D T ld lt =
+      leads_or begins_item D T (leads_any is_specifier begins_item D (at_in specifiers in_specifiers _ (λ _ _ _ _ _. refl)) ld)
+      (leads_any begins_statement begins_item T (wider statement_class item_class (λ _ _ _ _ _. refl)) lt)
 
   another_exact : (b : ℕ) → 4 ≤ b → (ls : List Line) → Exact (Room n b) (more_lines ls) (L.pushed (L.◌or◌ DJ TJ) ls) (L.pushed (L.◌or◌ DC TC) ls) (R.pushed (M.block_item PD PT) ls) more_lines
   another_exact b h ls =
@@ -234,18 +236,30 @@ module _ (n : ℕ) (J C : Expressions) (P : Readers) (self : (r : Nonterminal) �
 
   statement_exact : Exact (Room n 3) none (G.statement J DJ TJ) (G.statement C DC TC) (M.statement n P PD PT) more_line
   statement_exact =
-      picked (leads_first (is_mark 4)) (block_exact 3 (omega arith) none (λ _ _. refl) more_line (λ p ls. closed (line_at p (a.Block ls)) (open_block p ls)))
+      picked (leads_first (is_mark 4))
+      (block_exact 3 (omega arith) none (λ _ _. refl) more_line (λ p ls. closed (line_at p (a.Block ls)) (open_block p ls)))
       (picked (leads_first (is_keyword 11)) (if_exact _ (at_keyword 11 _ refl (λ _ _. refl)))
       (picked (leads_first (is_keyword 20)) (while_exact _ (at_keyword 20 _ refl (λ _ _. refl)))
       (picked (leads_first (is_keyword 7)) (do_exact _ (at_keyword 7 _ refl (λ _ _. refl)))
       (picked (leads_first (is_keyword 10)) (for_exact _ (at_keyword 10 _ refl (λ _ _. refl)))
       (picked (leads_first (is_keyword 17)) (switch_exact _ (at_keyword 17 _ refl (λ _ _. refl)))
       (picked (leads_first (is_keyword 2)) (case_exact _ (at_keyword 2 _ refl (λ _ _. refl)))
-      (picked (leads_first (is_keyword 6)) (first (taken (sample (Keyword 6)) refl (at_keyword 6 _ refl (λ _ _. refl))) (λ k. first (taken (sample (Mark 8)) refl (λ _ _. refl)) (λ _. given (closed (line_at k.place a.Default) (open_default k.place)))))
-      (picked (leads_first (is_keyword 1)) (first (taken (sample (Keyword 1)) refl (at_keyword 1 _ refl (λ _ _. refl))) (λ k. first (taken (sample (Mark 6)) refl (λ _ _. refl)) (λ _. given (closed (line_at k.place a.Break) (open_break k.place)))))
-      (picked (leads_first (is_keyword 5)) (first (taken (sample (Keyword 5)) refl (at_keyword 5 _ refl (λ _ _. refl))) (λ k. first (taken (sample (Mark 6)) refl (λ _ _. refl)) (λ _. given (closed (line_at k.place a.Continue) (open_continue k.place)))))
+      (picked (leads_first (is_keyword 6))
+      (first (taken (sample (Keyword 6)) refl (at_keyword 6 _ refl (λ _ _. refl)))
+      (λ k. first (taken (sample (Mark 8)) refl (λ _ _. refl))
+      (λ _. given (closed (line_at k.place a.Default) (open_default k.place)))))
+      (picked (leads_first (is_keyword 1))
+      (first (taken (sample (Keyword 1)) refl (at_keyword 1 _ refl (λ _ _. refl)))
+      (λ k. first (taken (sample (Mark 6)) refl (λ _ _. refl))
+      (λ _. given (closed (line_at k.place a.Break) (open_break k.place)))))
+      (picked (leads_first (is_keyword 5))
+      (first (taken (sample (Keyword 5)) refl (at_keyword 5 _ refl (λ _ _. refl)))
+      (λ k. first (taken (sample (Mark 6)) refl (λ _ _. refl))
+      (λ _. given (closed (line_at k.place a.Continue) (open_continue k.place)))))
       (picked (leads_first (is_keyword 13)) (return_exact _ (at_keyword 13 _ refl (λ _ _. refl)))
-      (exact_before (Room n 3) none _ begins_simple _ _ _ _ simple_exact (leads_then begins_simple _ _ (leads_marked begins_simple _ (value_leads_simple C (lc Assign)))) (at_class simple_class _ (λ _ _ _ _ _. refl)))))))))))))
+      (exact_before (Room n 3) none _ begins_simple _ _ _ _ simple_exact
+      (leads_then begins_simple _ _ (leads_marked begins_simple _ (value_leads_simple C (lc Assign))))
+      (at_class simple_class _ (λ _ _ _ _ _. refl)))))))))))))
 
 -- `;`
 any_statement : (m : ℕ) → Any (G.statements (suc m))

@@ -121,7 +121,9 @@ rest_class = record { marks = 4 ∷ 6 ∷ 7 ∷ 22 ∷ []; keywords = []; names 
 abbrev specified_class : Class
 specified_class = record { marks = 0 ∷ 6 ∷ []; keywords = []; names = true; numbers = false; strings = false }
 
-others_leads : (E : Expressions) (P : Parameters) (s : Specs) (x : Declarator) (c : Class) → ((t : Terminal) → is_mark 7 t ≡ true → is_in c t ≡ true) → ((t : Terminal) → is_mark 6 t ≡ true → is_in c t ≡ true) → Leads (is_in c) (others E P s x)
+others_leads : (E : Expressions) (P : Parameters) (s : Specs) (x : Declarator) (c : Class) →
+    ((t : Terminal) → is_mark 7 t ≡ true → is_in c t ≡ true) → ((t : Terminal) → is_mark 6 t ≡ true → is_in c t ≡ true) →
+    Leads (is_in c) (others E P s x)
 others_leads E P s x c h k = leads_chain (is_in c) (L.comma_pushed (declared E P)) (x ∷ []) _ (λ _. leads_wider h) (λ _. leads_wider k)
 
 after_declarator_leads : (E : Expressions) (P : Parameters) (B : Lines) → Leads (is_mark 4) B → (s : Specs) (d : Declarator) → Leads (is_in rest_class) (after_declarator E P B s d)
@@ -140,12 +142,15 @@ after_specs_leads E P B s =
 module _ (n : ℕ) (J C : Expressions) (P : Readers) (self : (r : Nonterminal) → Exact (Room n (weight r)) none (J r) (C r) (P r) (λ _. more r))
     (lj : (r : Nonterminal) → Leads starts (J r)) (lc : (r : Nonterminal) → Leads starts (C r))
     (PJ PC : Parameters) (PP : ParameterReader) (ps : ExactIn (Room n 4) never_in_parameters none PJ PC PP (λ _. none))
-    (BJ BC : Lines) (PB : LineReader) (body : (b : ℕ) → 1 ≤ b → (before : Terminal → Bool) → ((t : Terminal) → is_mark 4 t ≡ true → before t ≡ false) → Exact (Room n b) before BJ BC PB (λ _. none)) (lbj : Leads (is_mark 4) BJ) (lbc : Leads (is_mark 4) BC) where
+    (BJ BC : Lines) (PB : LineReader)
+    (body : (b : ℕ) → 1 ≤ b → (before : Terminal → Bool) → ((t : Terminal) → is_mark 4 t ≡ true → before t ≡ false) → Exact (Room n b) before BJ BC PB (λ _. none))
+    (lbj : Leads (is_mark 4) BJ) (lbc : Leads (is_mark 4) BC) where
   others_exact : (s : Specs) (x : Declarator) → Exact (Room n 5) none (others J PJ s x) (others C PC s x)
       (R.◌>>=◌ (R.chain (is_mark 7) (R.comma_pushed (D.declared n P PP)) n (x ∷ [])) (λ ds. R.◌>>=◌ (R.token (is_mark 6)) (λ _. R.give (item_of s ds None)))) (λ _. none)
   others_exact s x =
       after_in (λ ds. apart_leads never_declared (is_mark 6) _ (λ _. none) none (leads_first (is_mark 6)) (at_mark 6 _ refl (λ _ _. refl)))
-      (commas_exact n 5 never_declared declarator_starts (at_mark 7 _ refl (λ _ _. refl)) (declared J PJ) (declared C PC) (D.declared n P PP) (declared_leads J PJ) (declared_exact n J C P self lj lc PJ PC PP ps 5 (omega arith)) 5 (omega arith) (omega arith) (x ∷ []))
+      (commas_exact n 5 never_declared declarator_starts (at_mark 7 _ refl (λ _ _. refl)) (declared J PJ) (declared C PC) (D.declared n P PP)
+      (declared_leads J PJ) (declared_exact n J C P self lj lc PJ PC PP ps 5 (omega arith)) 5 (omega arith) (omega arith) (x ∷ []))
       (λ ds. first (taken (sample (Mark 6)) refl (at_mark 6 _ refl (λ _ _. refl))) (λ _. given refl))
 
   after_declarator_exact : (s : Specs) (d : Declarator) → Exact (Room n 5) (is_keyword 21) (after_declarator J PJ BJ s d) (after_declarator C PC BC s d) (M.after_declarator n P PP PB s d) (λ _. none)

@@ -116,8 +116,11 @@ pub loop_begins : {A X Y Z : Type 0} {view : A → X × List Terminal} {whole : 
     → Gives view (Ok a) read → whole ≡ go_on (λ x r. go_on fin (R.chain test f n (g x) r)) read → Loops whole test f fin (g (view a).0) (view a).1
 loop_begins {view = view} {whole = whole} {test = test} f fin g n a read h e = begun view whole test f fin g n a read h.told e
 
-pub loop_begins_at : {A X Y : Type 0} {view : A → X × List Terminal} {whole : Read Y} {test : Terminal → Bool} (f : Place × X → List Terminal → Read (Place × X)) (fin : Place × X → List Terminal → Read Y) (n : ℕ) (a : A) (ts : List Terminal) (p : List Terminal → Read X)
-    → Gives view (Ok a) (p ts) → whole ≡ go_on (λ x r. go_on fin (R.chain test f n x r)) (R.marked p ts) → Loops whole test f fin (place_of ts, (view a).0) (view a).1
+pub loop_begins_at : {A X Y : Type 0} {view : A → X × List Terminal} {whole : Read Y} {test : Terminal → Bool}
+    (f : Place × X → List Terminal → Read (Place × X)) (fin : Place × X → List Terminal → Read Y) (n : ℕ) (a : A) (ts : List Terminal)
+    (p : List Terminal → Read X) →
+    Gives view (Ok a) (p ts) → whole ≡ go_on (λ x r. go_on fin (R.chain test f n x r)) (R.marked p ts) →
+    Loops whole test f fin (place_of ts, (view a).0) (view a).1
 loop_begins_at {A} {X} {Y} {view} {whole} {test} f fin n a ts p h e = begun (λ (b : A). ((place_of ts, (view b).0), (view b).1)) whole test f fin (λ z. z) n a (R.marked p ts) (marked_ok view a ts (p ts) h.told) e
 
 pub loops_at : {X Y : Type 0} {whole : Read Y} {test : Terminal → Bool} {f : X → List Terminal → Read X} {fin : X → List Terminal → Read Y} {x y : X} {ts us : List Terminal}
@@ -170,8 +173,9 @@ loop_stops {B} {X} {Y} {view} {r} {whole} {test} {f} {fin} {x} {ts} l h k = subs
     go zero = record { told = tt }
     go (suc n) = subst (λ z. Gives view r (go_on fin (cond z (go_on (R.chain test f n) (f x ts)) (R.give x ts)))) (sym h) k
 
-pub loop_fails : {B X Y : Type 0} {view2 : B → Y × List Terminal} {e : Fault} {whole : Read Y} {test : Terminal → Bool} {f : X → List Terminal → Read X} {fin : X → List Terminal → Read Y} {x : X} {ts : List Terminal} {t : Terminal} {rest : List Terminal}
-    → Loops whole test f fin x ts → IsTaken test ts t rest → Gives plain (Err e) (f x ts) → Gives view2 (Err e) whole
+pub loop_fails : {B X Y : Type 0} {view2 : B → Y × List Terminal} {e : Fault} {whole : Read Y} {test : Terminal → Bool}
+    {f : X → List Terminal → Read X} {fin : X → List Terminal → Read Y} {x : X} {ts : List Terminal} {t : Terminal} {rest : List Terminal} →
+    Loops whole test f fin x ts → IsTaken test ts t rest → Gives plain (Err e) (f x ts) → Gives view2 (Err e) whole
 loop_fails {B} {X} {Y} {view2} {e} {whole} {test} {f} {fin} {x} {ts} {t} {rest} l h k = subst (λ z. Gives view2 (Err e) z) (sym l.same) (go l.turns)
   where
     go : (n : ℕ) → Gives view2 (Err e) (go_on fin (R.chain test f n x ts))
@@ -215,8 +219,9 @@ pub then_no : {B X Y : Type 0} {view : B → Y × List Terminal} {r : Result B F
     → v ≡ false → Gives view r (go_on f two) → Gives view r (go_on f (cond v one two))
 then_no {view = view} {r = r} f v one two h k = subst (λ z. Gives view r (go_on f (cond z one two))) (sym h) k
 
-pub then_taken : {B X Y : Type 0} {view : B → Y × List Terminal} {r : Result B Fault} {test : Terminal → Bool} {ts : List Terminal} {t : Terminal} {rest : List Terminal} (f : X → List Terminal → Read Y) (g : Terminal → List Terminal → Read X) (two : Read X)
-    → IsTaken test ts t rest → Gives view r (go_on f (g t rest)) → Gives view r (go_on f (cond (next test ts) (go_on g (R.token test ts)) two))
+pub then_taken : {B X Y : Type 0} {view : B → Y × List Terminal} {r : Result B Fault} {test : Terminal → Bool} {ts : List Terminal} {t : Terminal}
+    {rest : List Terminal} (f : X → List Terminal → Read Y) (g : Terminal → List Terminal → Read X) (two : Read X) →
+    IsTaken test ts t rest → Gives view r (go_on f (g t rest)) → Gives view r (go_on f (cond (next test ts) (go_on g (R.token test ts)) two))
 then_taken {view = view} {r = r} {test = test} {ts = ts} {t = t} {rest = rest} f g two h k =
     subst (λ z. Gives view r (go_on f (cond z (go_on g (R.token test ts)) two))) (sym (taken_next test ts t rest h))
     (subst (λ z. Gives view r (go_on f (go_on g z))) (sym (token_read test ts t rest h)) k)

@@ -31,18 +31,29 @@ closes_begins {view = view} {whole = whole} p fin n a read h e = moved view whol
 more_after : {X : Type 0} (p : List Terminal → Read X) (n : ℕ) (xs : List X) (ts : List Terminal) (t : Terminal) (rest : List Terminal)
     → IsTaken (is_mark 7) ts t rest → next (is_mark 5) rest ≡ false → R.closing (suc n) p xs ts ≡ go_on (λ x. R.closing n p (xs ++ x ∷ [])) (p rest)
 more_after p n xs ts t rest h k =
-    ap (λ v. cond v (go_on (λ _. R.choice (is_mark 5) (R.◌>>=◌ (R.token (is_mark 5)) (λ _. R.give xs)) (R.◌>>=◌ p (λ x. R.closing n p (xs ++ x ∷ [])))) (R.token (is_mark 7) ts)) (go_on (λ _. R.give xs) (R.token (is_mark 5) ts))) (taken_next (is_mark 7) ts t rest h)
-    ∙ (ap (λ z. go_on (λ _. R.choice (is_mark 5) (R.◌>>=◌ (R.token (is_mark 5)) (λ _. R.give xs)) (R.◌>>=◌ p (λ x. R.closing n p (xs ++ x ∷ [])))) z) (token_read (is_mark 7) ts t rest h)
-    ∙ ap (λ v. cond v (go_on (λ _. R.give xs) (R.token (is_mark 5) rest)) (go_on (λ x. R.closing n p (xs ++ x ∷ [])) (p rest))) k)
+    ap (λ v. cond v (go_on
+    (λ _. R.choice (is_mark 5) (R.◌>>=◌ (R.token (is_mark 5)) (λ _. R.give xs)) (R.◌>>=◌ p (λ x. R.closing n p (xs ++ x ∷ []))))
+    (R.token (is_mark 7) ts))
+    (go_on (λ _. R.give xs) (R.token (is_mark 5) ts)))
+    (taken_next (is_mark 7) ts t rest h) ∙
+    (ap (λ z. go_on (λ _. R.choice (is_mark 5) (R.◌>>=◌ (R.token (is_mark 5)) (λ _. R.give xs)) (R.◌>>=◌ p (λ x. R.closing n p (xs ++ x ∷ [])))) z)
+    (token_read (is_mark 7) ts t rest h) ∙
+    ap (λ v. cond v (go_on (λ _. R.give xs) (R.token (is_mark 5) rest)) (go_on (λ x. R.closing n p (xs ++ x ∷ [])) (p rest))) k)
 
 -- a comma, and the end
 ended_after : {X : Type 0} (p : List Terminal → Read X) (n : ℕ) (xs : List X) (ts : List Terminal) (t : Terminal) (rest : List Terminal) (u : Terminal) (left : List Terminal)
     → IsTaken (is_mark 7) ts t rest → IsTaken (is_mark 5) rest u left → R.closing (suc n) p xs ts ≡ Ends (Some xs) left
 ended_after p n xs ts t rest u left h k =
-    ap (λ v. cond v (go_on (λ _. R.choice (is_mark 5) (R.◌>>=◌ (R.token (is_mark 5)) (λ _. R.give xs)) (R.◌>>=◌ p (λ x. R.closing n p (xs ++ x ∷ [])))) (R.token (is_mark 7) ts)) (go_on (λ _. R.give xs) (R.token (is_mark 5) ts))) (taken_next (is_mark 7) ts t rest h)
-    ∙ (ap (λ z. go_on (λ _. R.choice (is_mark 5) (R.◌>>=◌ (R.token (is_mark 5)) (λ _. R.give xs)) (R.◌>>=◌ p (λ x. R.closing n p (xs ++ x ∷ [])))) z) (token_read (is_mark 7) ts t rest h)
-    ∙ (ap (λ v. cond v (go_on (λ _. R.give xs) (R.token (is_mark 5) rest)) (go_on (λ x. R.closing n p (xs ++ x ∷ [])) (p rest))) (taken_next (is_mark 5) rest u left k)
-    ∙ ap (λ z. go_on (λ _. R.give xs) z) (token_read (is_mark 5) rest u left k)))
+    ap (λ v. cond v (go_on
+    (λ _. R.choice (is_mark 5) (R.◌>>=◌ (R.token (is_mark 5)) (λ _. R.give xs)) (R.◌>>=◌ p (λ x. R.closing n p (xs ++ x ∷ []))))
+    (R.token (is_mark 7) ts))
+    (go_on (λ _. R.give xs) (R.token (is_mark 5) ts)))
+    (taken_next (is_mark 7) ts t rest h) ∙
+    (ap (λ z. go_on (λ _. R.choice (is_mark 5) (R.◌>>=◌ (R.token (is_mark 5)) (λ _. R.give xs)) (R.◌>>=◌ p (λ x. R.closing n p (xs ++ x ∷ [])))) z)
+    (token_read (is_mark 7) ts t rest h) ∙
+    (ap (λ v. cond v (go_on (λ _. R.give xs) (R.token (is_mark 5) rest)) (go_on (λ x. R.closing n p (xs ++ x ∷ [])) (p rest)))
+    (taken_next (is_mark 5) rest u left k) ∙
+    ap (λ z. go_on (λ _. R.give xs) z) (token_read (is_mark 5) rest u left k)))
 
 pub closes_goes_on : {A X Y : Type 0} {view : A → X × List Terminal} {whole : Read Y} {p : List Terminal → Read X} {fin : List X → List Terminal → Read Y} {xs : List X} {ts : List Terminal} {t : Terminal} {rest : List Terminal} {a : A}
     → Closes whole p fin xs ts → IsTaken (is_mark 7) ts t rest → next (is_mark 5) rest ≡ false → Gives view (Ok a) (p rest) → Closes whole p fin (xs ++ (view a).0 ∷ []) (view a).1
@@ -52,8 +63,9 @@ closes_goes_on {A} {X} {Y} {view} {whole} {p} {fin} {xs} {ts} {t} {rest} {a} l h
     go zero e = record { turns = zero; same = e }
     go (suc n) e = moved view whole p fin xs n a (p rest) g.told (e ∙ ap (λ z. go_on fin z) (more_after p n xs ts t rest h k))
 
-pub closes_fails : {A B X Y : Type 0} {view : A → X × List Terminal} {view2 : B → Y × List Terminal} {e : Fault} {whole : Read Y} {p : List Terminal → Read X} {fin : List X → List Terminal → Read Y} {xs : List X} {ts : List Terminal} {t : Terminal} {rest : List Terminal}
-    → Closes whole p fin xs ts → IsTaken (is_mark 7) ts t rest → next (is_mark 5) rest ≡ false → Gives view (Err e) (p rest) → Gives view2 (Err e) whole
+pub closes_fails : {A B X Y : Type 0} {view : A → X × List Terminal} {view2 : B → Y × List Terminal} {e : Fault} {whole : Read Y}
+    {p : List Terminal → Read X} {fin : List X → List Terminal → Read Y} {xs : List X} {ts : List Terminal} {t : Terminal} {rest : List Terminal} →
+    Closes whole p fin xs ts → IsTaken (is_mark 7) ts t rest → next (is_mark 5) rest ≡ false → Gives view (Err e) (p rest) → Gives view2 (Err e) whole
 closes_fails {A} {B} {X} {Y} {view} {view2} {e} {whole} {p} {fin} {xs} {ts} {t} {rest} l h k g = same_read (sym l.same) (go l.turns)
   where
     go : (n : ℕ) → Gives view2 (Err e) (go_on fin (R.closing n p xs ts))
@@ -61,8 +73,10 @@ closes_fails {A} {B} {X} {Y} {view} {view2} {e} {whole} {p} {fin} {xs} {ts} {t} 
     go (suc n) = same_read (ap (λ z. go_on fin z) (sym (more_after p n xs ts t rest h k)))
         (same_read (sym (regrouped (λ x. R.closing n p (xs ++ x ∷ [])) fin (p rest))) (then_err (λ x r. go_on fin (R.closing n p (xs ++ x ∷ []) r)) g))
 
-pub closes_early : {B X Y : Type 0} {view : B → Y × List Terminal} {r : Result B Fault} {whole : Read Y} {p : List Terminal → Read X} {fin : List X → List Terminal → Read Y} {xs : List X} {ts : List Terminal} {t : Terminal} {rest : List Terminal} {u : Terminal} {left : List Terminal}
-    → Closes whole p fin xs ts → IsTaken (is_mark 7) ts t rest → IsTaken (is_mark 5) rest u left → Gives view r (fin xs left) → Gives view r whole
+pub closes_early : {B X Y : Type 0} {view : B → Y × List Terminal} {r : Result B Fault} {whole : Read Y} {p : List Terminal → Read X}
+    {fin : List X → List Terminal → Read Y} {xs : List X} {ts : List Terminal} {t : Terminal} {rest : List Terminal} {u : Terminal}
+    {left : List Terminal} →
+    Closes whole p fin xs ts → IsTaken (is_mark 7) ts t rest → IsTaken (is_mark 5) rest u left → Gives view r (fin xs left) → Gives view r whole
 closes_early {B} {X} {Y} {view} {r} {whole} {p} {fin} {xs} {ts} {t} {rest} {u} {left} l h k g = same_read (sym l.same) (go l.turns)
   where
     go : (n : ℕ) → Gives view r (go_on fin (R.closing n p xs ts))
@@ -75,9 +89,12 @@ closes_stops {B} {X} {Y} {view} {r} {whole} {p} {fin} {xs} {ts} l h g = same_rea
   where
     go : (n : ℕ) → Gives view r (go_on fin (R.closing n p xs ts))
     go zero = record { told = tt }
-    go (suc n) = same_read
-        (sym (regrouped (λ _. R.give xs) fin (R.token (is_mark 5) ts))
-        ∙ ap (λ v. go_on fin (cond v (go_on (λ _. R.choice (is_mark 5) (R.◌>>=◌ (R.token (is_mark 5)) (λ _. R.give xs)) (R.◌>>=◌ p (λ x. R.closing n p (xs ++ x ∷ [])))) (R.token (is_mark 7) ts)) (go_on (λ _. R.give xs) (R.token (is_mark 5) ts)))) (sym h)) g
+    go (suc n) =
+        same_read (sym (regrouped (λ _. R.give xs) fin (R.token (is_mark 5) ts)) ∙
+        ap (λ v. go_on fin (cond v (go_on (λ _.
+        R.choice (is_mark 5) (R.◌>>=◌ (R.token (is_mark 5)) (λ _. R.give xs)) (R.◌>>=◌ p (λ x. R.closing n p (xs ++ x ∷ []))))
+        (R.token (is_mark 7) ts))
+        (go_on (λ _. R.give xs) (R.token (is_mark 5) ts)))) (sym h)) g
 
 -- a token that was read is the first
 token_told : {A : Type 0} (view : A → Terminal × List Terminal) (a : A) (t : Terminal) (ts : List Terminal) (v : Bool)
@@ -99,13 +116,16 @@ braced_begins {A} {B} {X} {view} {view2} {a} {b} n p ts h k =
 
 pub comma_begins : {A X : Type 0} {view : A → X × List Terminal} {a : A} (n : ℕ) (p : List Terminal → Read X) (ts : List Terminal)
     → Gives view (Ok a) (p ts) → Loops (R.comma_list n p ts) (is_mark 7) (R.comma_pushed p) (λ xs r. R.give xs r) ((view a).0 ∷ []) (view a).1
-comma_begins {a = a} n p ts h = loop_begins (R.comma_pushed p) (λ xs r. R.give xs r) (λ x. x ∷ []) n a (p ts) h (go_on_give (R.comma_list n p ts) ∙ regrouped (λ x. R.chain (is_mark 7) (R.comma_pushed p) n (x ∷ [])) (λ xs r. R.give xs r) (p ts))
+comma_begins {a = a} n p ts h =
+    loop_begins (R.comma_pushed p) (λ xs r. R.give xs r) (λ x. x ∷ []) n a (p ts) h
+    (go_on_give (R.comma_list n p ts) ∙ regrouped (λ x. R.chain (is_mark 7) (R.comma_pushed p) n (x ∷ [])) (λ xs r. R.give xs r) (p ts))
 
 pub comma_goes_on : {A X Y : Type 0} {view : A → X × List Terminal} {a : A} {whole : Read Y} {fin : List X → List Terminal → Read Y} {xs : List X} {ts : List Terminal} {t : Terminal} {rest : List Terminal} (p : List Terminal → Read X)
     → Loops whole (is_mark 7) (R.comma_pushed p) fin xs ts → IsTaken (is_mark 7) ts t rest → Gives view (Ok a) (p rest) → Loops whole (is_mark 7) (R.comma_pushed p) fin (xs ++ (view a).0 ∷ []) (view a).1
 comma_goes_on {view = view} {a = a} {xs = xs} p l h k =
     loop_goes_on l h (token_ok (λ _. R.pushed p xs) h (then_ok (λ x. R.give (xs ++ x ∷ [])) k (given_ok (xs ++ (view a).0 ∷ [], (view a).1) (xs ++ (view a).0 ∷ []) (view a).1 refl refl)))
 
-pub comma_fails : {A B X Y : Type 0} {view : A → X × List Terminal} {view2 : B → Y × List Terminal} {e : Fault} {whole : Read Y} {fin : List X → List Terminal → Read Y} {xs : List X} {ts : List Terminal} {t : Terminal} {rest : List Terminal} (p : List Terminal → Read X)
-    → Loops whole (is_mark 7) (R.comma_pushed p) fin xs ts → IsTaken (is_mark 7) ts t rest → Gives view (Err e) (p rest) → Gives view2 (Err e) whole
+pub comma_fails : {A B X Y : Type 0} {view : A → X × List Terminal} {view2 : B → Y × List Terminal} {e : Fault} {whole : Read Y}
+    {fin : List X → List Terminal → Read Y} {xs : List X} {ts : List Terminal} {t : Terminal} {rest : List Terminal} (p : List Terminal → Read X) →
+    Loops whole (is_mark 7) (R.comma_pushed p) fin xs ts → IsTaken (is_mark 7) ts t rest → Gives view (Err e) (p rest) → Gives view2 (Err e) whole
 comma_fails {xs = xs} p l h k = loop_fails l h (token_ok (λ _. R.pushed p xs) h (then_err (λ x. R.give (xs ++ x ∷ [])) k))

@@ -43,6 +43,8 @@ breaks_all ts left h = go (model.unit n ts) refl (h n).told
     go (R.Ends None s) e t = subst (Breaks ts) (sym t) (broken n ts s e)
     go (R.Ends (Some items) s) e t = absurd t
 
-pub breaks_off : (text : List ℕ) (tokens : Tokens) (given : List Token) (left : ℕ) (place : Place) → given ≡ tokens.items → place ≡ place_left given left tokens.end → ((n : ℕ) → Gives all (Err (Syntax left)) (model.unit n (terminals text given))) → BreaksAt text tokens place
+pub breaks_off : (text : List ℕ) (tokens : Tokens) (given : List Token) (left : ℕ) (place : Place) → given ≡ tokens.items →
+    place ≡ place_left given left tokens.end → ((n : ℕ) → Gives all (Err (Syntax left)) (model.unit n (terminals text given))) →
+    BreaksAt text tokens place
 breaks_off text tokens given left place s p h =
     breaks_at text tokens left place (subst (λ z. Breaks (terminals text z) left) s (breaks_all (terminals text given) left h)) (p ∙ ap (λ z. place_left z left tokens.end) s)

@@ -1,5 +1,5 @@
 -- A function has code where its body is selected.
-use Rattle.std.proofs.Common.{◌≡◌, ℕ, ◌<◌, ◌≤◌, min, Bool, slice_get, ap, ◌∙◌, subst, arith}
+use Rattle.std.proofs.Common.{◌≡◌, ℕ, ◌<◌, ◌≤◌, min, Bool, slice_get, ap, ◌∙◌, subst}
 use Rattle.mv_ast.specs.declared.program.Program.{Program}
 use Rattle.mv_ast.specs.Counts.{is_attributed}
 use Rattle.mv_isa.specs.declared.labelled.Labelled.{Labelled}

@@ -1,5 +1,5 @@
 -- The variants of functions with small frames are bodies that code can be selected for.
-use Rattle.std.proofs.Common.{arith, ◌≡◌, ℕ, All, List, Some, length, slice_get, sym, ap, ◌∙◌}
+use Rattle.std.proofs.Common.{◌≡◌, ℕ, All, List, Some, length, slice_get, sym, ap, ◌∙◌}
 use Rattle.std.specs.List.{zip}
 use Rattle.std.proofs.lemmas.Option.{slice_get_within}
 use Rattle.mv_ast.specs.declared.program.Program.{Program}
@@ -24,7 +24,8 @@ module _ (made : MadeAreVariants) (came : BodiesAreMade) (shallow : LoweredAreSh
   fits i v is =
       let kept : slice_get are.merged.bodies i ≡ Some v.body = ap (λ xs. slice_get xs i) (sym are.grouped.bodies) ∙ map_at (λ (x : Variant). x.body) variants i v is in
       let from = came (domains_in p (switch_kind p) g) are.rows are.merged are.is_merged are.shorts (lower_function p g) are.made i v.body kept in
-      let variant : IsVariantOf are.shorts (zip (lower_function p g).switches from.0.assignment.values) (lower_function p g) v.body = made are.shorts (zip (lower_function p g).switches from.0.assignment.values) (lower_function p g) v.body from.2 in
+      let variant : IsVariantOf are.shorts (zip (lower_function p g).switches from.0.assignment.values) (lower_function p g) v.body =
+      made are.shorts (zip (lower_function p g).switches from.0.assignment.values) (lower_function p g) v.body from.2 in
       let own = frames f g (slice_get_within p.functions f g there) there in
       record {
         formed = variant.well_formed (well p f g (record { formed = formed; there = there }));

@@ -12,21 +12,20 @@ use Rattle.mv_isa.specs.declared.labelled.Line.{Line}
 use Rattle.mv_isa.specs.declared.labelled.Line.TheVariants.{Word, Label, Jump, Branch, Entry, Slot, Point}
 use Rattle.mv_ir.specs.declared.body.Room.{Room}
 use Rattle.mv_ir.specs.declared.stm.Array.{Array}
-use Rattle.mv_ir.specs.declared.stm.Callee.{Callee}
-use Rattle.mv_ir.specs.declared.stm.Callee.TheVariants as callee
 use Rattle.mv_ir.specs.declared.stm.Stm.{Stm}
 use Rattle.mv_ir.specs.declared.stm.Stm.TheOpen.{Stm-F}
 use Rattle.mv_ir.specs.declared.stm.Stm.TheOpen as stm
 use Rattle.mv_ir.specs.declared.stm.Stm.TheFolds.{map-Stm}
-use Rattle.mv_ir.specs.WellFormed.{has_room, callee_named, layer_named, stm_named, named}
+use Rattle.mv_ir.specs.WellFormed.{has_room, layer_named, stm_named, named}
 use Rattle.mv_ir.proofs.Common.{each_first, each_right}
 use Rattle.mv_ir.proofs.Induction.{Each, each_append, StmChildren, stm_ind, stms_ind}
 use Rattle.mv_ir.proofs.Rolls.{named_roll}
 use Rattle.mv_lower_spec.specs.Functions.{address_behind, rooms_from}
-use Rattle.mv_select_code.specs.Control.Labels.{callee_pointers, pointers_layer, stm_pointers, pointers}
+use Rattle.mv_select_code.specs.Control.Labels.{pointers_layer, stm_pointers, pointers}
 use Rattle.mv_select_code.specs.Trees.Rooms.{place_in}
 use Rattle.mv_select_code.proofs.OfControl.TreeNames.{pointers_roll}
 use Rattle.mv_select.specs.Bodies.Lines.{NamesThese}
+use Rattle.mv_select.proofs.OfBodies.Functions.{callee_known}
 use Rattle.mv_select.proofs.OfBodies.SamePlaces.{IsKnownArray}
 use Rattle.mv_link_data.specs.FirstData.{data_words, global_sizes}
 use Rattle.mv_link_data.proofs.Places.{size_of}
@@ -41,12 +40,6 @@ module _ (is_known : ℕ → Bool) where
   abbrev CallsKnown : Stm → Type 0
   CallsKnown s = Each (IsKnownArray is_known) (stm_named s) → Each (λ g. is_known g ≡ true) (stm_pointers s)
 
-  callee_known : (f : Callee) → Each (IsKnownArray is_known) (callee_named f) → Each (λ g. is_known g ≡ true) (callee_pointers f)
-  callee_known (callee.Direct f) h = tt
-  callee_known (callee.Through t) h = tt
-  callee_known (callee.Switched g) h = (h.0, tt)
-  callee_known callee.Expanded h = tt
-
   inner : (code : List Stm) → Each CallsKnown code → Each (IsKnownArray is_known) (named code) → Each (λ g. is_known g ≡ true) (pointers code)
   inner [] c h = tt
   inner (s ∷ code) c h =
@@ -60,7 +53,7 @@ module _ (is_known : ℕ → Bool) where
       (inner b c.1 (each_right (IsKnownArray is_known) (named a) (named b) h))
   layer (stm.Loop b) c h = inner b c h
   layer (stm.Block b) c h = inner b c h
-  layer (stm.Call r f args) c h = callee_known f h
+  layer (stm.Call r f args) c h = callee_known is_known f h
   layer _ c h = tt
 
   pub calls_known : (code : List Stm) → Each (IsKnownArray is_known) (named code) → Each (λ g. is_known g ≡ true) (pointers code)

@@ -2,7 +2,7 @@
 use Rattle.std.specs.Prelude.{ℕ, ◌≡◌, ◌+◌, ◌*◌, ◌<◌, ◌≤◌, List, length}
 use Rattle.mv_num.specs.Regions.{data_limit, text_limit}
 use Rattle.mv_ast.specs.declared.program.Program.{Program}
-use Rattle.mv_ast.specs.Counts.{patchable}
+use Rattle.mv_ast.specs.Counts.{patchable_places}
 use Rattle.mv_isa.specs.Code.{text_start}
 use Rattle.mv_asm.specs.Outcome.{PassesText}
 use Rattle.mv_ir.specs.declared.body.Body.{Body}
@@ -41,7 +41,7 @@ DataIsCounted = (p : Program) → IsWellFormed p → length (first_data p) ≡ d
 -- Counts over the source bound what is linked: its sites, the places that a plan patches, and its text where that is too long.
 pub record IsCounted (p : Program) (parts : Parts) : Type 0 where
   pub sites : site_count parts ≤ source.site_count p
-  pub places : length parts.attributed + 2 * site_count parts ≤ patchable p
+  pub places : length parts.attributed + 2 * site_count parts ≤ patchable_places p
   pub text : (words : ℕ) → PassesText text_start (linked_lines parts) words → text_limit < source.text_count p
 
 abbrev pub PartsAreCounted : Type 0

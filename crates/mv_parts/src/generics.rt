@@ -1,9 +1,10 @@
 //! The bodies of functions, and their code.
 
-ghost use Rattle.std.specs.Prelude.{◌≡◌, map, slice_get, IfErr, IfOk, IfSome};
+ghost use Rattle.std.specs.Prelude.{◌≡◌, map, slice_get, All, IfErr, IfOk, IfSome, OnOk};
 ghost use Rattle.mv_ast.specs.Counts.{is_attributed};
 ghost use Rattle.mv_lower_spec.specs.Functions.{lower_function};
 ghost use Rattle.mv_source_forms.specs.WellFormed.{IsWellFormed};
+ghost use Rattle.mv_select.specs.Bodies.SelectedBodies.{HasWords};
 ghost use Rattle.mv_select.specs.Selected.{OnFrame};
 ghost use Rattle.mv_variants.specs.Bound.Shorts.{AreShortsOf, IsShortOf};
 ghost use Rattle.mv_parts.specs.Codes.{AreGenerics, IsGeneric, IsLowered, HasCode, HaveCode, PassesFirstFrame, PassesFrame};
@@ -78,7 +79,7 @@ pub fn generics_of(
     Ok(generics)
 }
 
-/// The code of each function, in their order. The first whose frame is too large is refused.
+/// The code of each function, in their order. The first whose frame is too large is refused. The constants in the bodies then have 32 bits.
 pub fn codes_of(
     alloc: Global,
     program: &Program,
@@ -87,6 +88,7 @@ pub fn codes_of(
     requires formed { IsWellFormed program.now }
     requires generics { AreGenerics program.now generics.now }
     ensures ok { IfOk result (λ codes. HaveCode program.now generics.now codes) }
+    ensures words { OnOk result (All (λ b. HasWords b.code) generics.now) }
     ensures err { IfErr result (λ e. OnFrame e (PassesFirstFrame program.now)) }
 {
     let mut codes = List::new(alloc);
@@ -110,6 +112,7 @@ fn code_of(
     requires formed { IsWellFormed program.now }
     requires generic { IsGeneric program.now number body.now }
     ensures ok { IfOk result (λ code. HasCode program.now number body.now code) }
+    ensures words { OnOk result (HasWords body.now.code) }
     ensures err { IfErr result (λ e. OnFrame e (PassesFrame program.now number)) }
 {
     lowered_forms_are_right();

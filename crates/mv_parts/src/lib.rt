@@ -4,7 +4,7 @@
 //! - `generics_of`: of each function of a well-formed program the body that it is lowered to, made ready or not, and
 //!   with its temporaries renamed (`AreGenerics`).
 //! - `codes_of`: the code that is selected for each of these bodies (`HaveCode`); all their frames then have at most 2,032
-//!   bytes. `Frame` comes where one has more, with the first such function and its bytes (`PassesFirstFrame`).
+//!   bytes, and their constants 32 bits. `Frame` comes where one has more, with the first such function and its bytes (`PassesFirstFrame`).
 //! - `attributed_numbers`: the numbers of the attributed functions, ascending, exactly as `specs/Numbers.antt` defines
 //!   them. `tables_of`: the variants of each (`AreTables`), which there is room for behind code of some size (`HaveRoom`);
 //!   `Limit` comes with the first that there is none for, with how much code there is up to it (`PassesFront`), and no

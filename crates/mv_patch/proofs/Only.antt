@@ -50,7 +50,9 @@ module _ (old new : List ℕ) where
   pub pairs_complete : Complete 0 (pairs_between old new)
   pairs_complete k o n le e f ne = difference_has_pair text_start k (place k) o n old new refl e f ne
 
-  to_march : (m : ℕ) (pairs : List Pair) → All (IsDifference old new) pairs → ((i j : ℕ) (d : Pair) → i < j → j < length pairs → (get_or pairs i d).address < (get_or pairs j d).address) → ((d : Pair) → 0 < length pairs → place m ≤ (get_or pairs 0 d).address) → Marches old new m pairs
+  to_march : (m : ℕ) (pairs : List Pair) → All (IsDifference old new) pairs
+      → ((i j : ℕ) (d : Pair) → i < j → j < length pairs → (get_or pairs i d).address < (get_or pairs j d).address)
+      → ((d : Pair) → 0 < length pairs → place m ≤ (get_or pairs 0 d).address) → Marches old new m pairs
   to_march m [] all ascend low = tt
   to_march m (pair ∷ pairs) all ascend low =
       let h = All-head (IsDifference old new) pair pairs all in

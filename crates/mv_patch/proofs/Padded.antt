@@ -11,7 +11,7 @@ use Rattle.mv_image.specs.Spelling.{Fields}
 use Rattle.mv_bindings.specs.declared.binding.Binding.{Binding}
 use Rattle.mv_bindings.specs.Bindings.{free, bound_to}
 use Rattle.mv_fetch.specs.Held.{Held}
-use Rattle.mv_patch.specs.Orders.{bound_values, word_in, words_now, bound_now}
+use Rattle.mv_patch.specs.Orders.{bound_values, word_in, words_of_switches, bound_now}
 use Rattle.mv_image.specs.Patched.{variant_under, variants_before, guards_before, kinds_of, fitting_in, fitting_variant}
 
 -- the first six of some values and zeros
@@ -58,26 +58,26 @@ padded_variant image f vs few = same_variant (padded vs) vs (padded_at vs few) i
 
 -- ---- the words of a function's switches
 
-pub words_count : (image : Fields) (held : Held) (row : FunctionRow) → row.count ≤ 6 → length row.switches ≡ 6 → length (words_now image held row) ≡ row.count
+pub words_count : (image : Fields) (held : Held) (row : FunctionRow) → row.count ≤ 6 → length row.switches ≡ 6 → length (words_of_switches image held row) ≡ row.count
 words_count image held row few whole =
     let all = length-map (take row.count row.switches) (λ (s : ℕ). word_in held (slice_get image.switches s)) in
     let some = length-take row.count row.switches in
     omega (arith, all, some, few, whole)
 
-module _ (image : Fields) (held : Held) (f : ℕ) (row : FunctionRow) (few : row.count ≤ 6) (whole : length row.switches ≡ 6) (values : List ℕ) (are : values ≡ padded (words_now image held row)) where
-  now_fits : (o : Option ℕ) → o ≡ fitting_variant image f values → fitting_variant image f (words_now image held row) ≡ o
+module _ (image : Fields) (held : Held) (f : ℕ) (row : FunctionRow) (few : row.count ≤ 6) (whole : length row.switches ≡ 6) (values : List ℕ) (are : values ≡ padded (words_of_switches image held row)) where
+  now_fits : (o : Option ℕ) → o ≡ fitting_variant image f values → fitting_variant image f (words_of_switches image held row) ≡ o
   now_fits o e =
       let count = words_count image held row few whole in
-      sym (padded_variant image f (words_now image held row) (omega (arith, count, few))) ∙ ap (fitting_variant image f) (sym are) ∙ sym e
+      sym (padded_variant image f (words_of_switches image held row) (omega (arith, count, few))) ∙ ap (fitting_variant image f) (sym are) ∙ sym e
 
   pub none_now : None ≡ fitting_variant image f values → free ≡ bound_now image held f row
-  none_now e = ap (λ (o : Option ℕ). cond (is_some o) (bound_to (words_now image held row)) free) (sym (now_fits None e))
+  none_now e = ap (λ (o : Option ℕ). cond (is_some o) (bound_to (words_of_switches image held row)) free) (sym (now_fits None e))
 
   pub some_now : (n : ℕ) → Some n ≡ fitting_variant image f values → (let b : Binding = record { bound = true; count = row.count; values = values } in b) ≡ bound_now image held f row
   some_now n e =
       let count = words_count image held row few whole in
-      ap₂ (λ (c : ℕ) (vs : List ℕ). (let b : Binding = record { bound = true; count = c; values = vs } in b)) (let is : row.count ≡ min 6 (length (words_now image held row)) = omega (arith, count, few) in is) are
-      ∙ ap (λ (o : Option ℕ). cond (is_some o) (bound_to (words_now image held row)) free) (sym (now_fits (Some n) e))
+      ap₂ (λ (c : ℕ) (vs : List ℕ). (let b : Binding = record { bound = true; count = c; values = vs } in b)) (let is : row.count ≡ min 6 (length (words_of_switches image held row)) = omega (arith, count, few) in is) are
+      ∙ ap (λ (o : Option ℕ). cond (is_some o) (bound_to (words_of_switches image held row)) free) (sym (now_fits (Some n) e))
 
 -- ---- the variant that a function is bound to
 

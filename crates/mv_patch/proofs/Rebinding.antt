@@ -1,5 +1,5 @@
 -- The bindings behind an order, one after the other.
-use Rattle.std.proofs.Common.{◌≡◌, ℕ, zero, suc, ◌+◌, ◌<◌, ◌≤◌, Bool, cond, ◌&&◌, List, [], ◌∷◌, ◌++◌, length, take, drop, set, get_or, slice_get, Some, refl, sym, ap, ap₂, ◌∙◌, arith, append_assoc, append-nil, drop-cons}
+use Rattle.std.proofs.Common.{◌≡◌, ℕ, suc, ◌+◌, ◌<◌, ◌≤◌, Bool, cond, ◌&&◌, List, [], ◌∷◌, ◌++◌, length, take, drop, set, get_or, slice_get, Some, refl, sym, ap, ap₂, ◌∙◌, arith, append_assoc, append-nil, drop-cons}
 use Rattle.std.proofs.Math.Seq.{take-suc-set}
 use Rattle.std.proofs.lemmas.List.{drop_all, take_all, get_or-drop, length-drop}
 use Rattle.std.proofs.lemmas.Option.{slice_get_within, get_or_from_slice_get, slice_get-get_or}
@@ -36,12 +36,6 @@ pub ordered_count : {A : Type 0} (addressed : ℕ → A → Bool) (next : ℕ �
 ordered_count addressed next i [] old e = refl
 ordered_count addressed next i (row ∷ rows) [] e = absurd (omega (arith, e))
 ordered_count addressed next i (row ∷ rows) (b ∷ old) e = ap suc (ordered_count addressed next (suc i) rows old (omega (arith, e)))
-
--- the row with a number, whatever stands for none
-pub row_found : {A : Type 0} (rows : List A) (i : ℕ) (d e : A) → i < length rows → get_or rows i d ≡ get_or rows i e
-row_found [] i d e lt = absurd (omega (arith, lt))
-row_found (x ∷ rows) zero d e lt = refl
-row_found (x ∷ rows) (suc i) d e lt = row_found rows i d e (omega (arith, lt))
 
 -- an item behind others
 pub behind_others : (n i : ℕ) (bs : List Binding) (d : Binding) → n + i < length bs → slice_get (drop n bs) i ≡ Some (get_or bs (n + i) d)

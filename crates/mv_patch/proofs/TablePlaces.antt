@@ -124,7 +124,8 @@ index_in image a h =
     let below = h.within in
     ((a - 4096) / 4, omega (arith, aligned, from, below), omega (arith, aligned, from))
 
-pub climbing : (n m : ℕ) (xs : List ℕ) → ((i : ℕ) → i < length xs → (k : ℕ) × (k < n) × (get_or xs i 0 ≡ place k)) → ((i j : ℕ) → i < j → j < length xs → get_or xs i 0 < get_or xs j 0) → (0 < length xs → place m ≤ get_or xs 0 0) → Climbs n m xs
+pub climbing : (n m : ℕ) (xs : List ℕ) → ((i : ℕ) → i < length xs → (k : ℕ) × (k < n) × (get_or xs i 0 ≡ place k))
+    → ((i j : ℕ) → i < j → j < length xs → get_or xs i 0 < get_or xs j 0) → (0 < length xs → place m ≤ get_or xs 0 0) → Climbs n m xs
 climbing n m [] at up low = tt
 climbing n m (x ∷ xs) at up low =
     let h = at 0 (omega arith) in
@@ -174,7 +175,9 @@ entries_climb image r =
     let first = entry_is image 0 within in
     omega (arith, from, first)))
 
-sites_climbing : (n m : ℕ) (sites : List SiteRow) → ((i : ℕ) → i < length sites → (k : ℕ) × (suc k < n) × ((get_or sites i no_site).address ≡ place k)) → ((i j : ℕ) → i < j → j < length sites → (get_or sites i no_site).address + 8 ≤ (get_or sites j no_site).address)
+sites_climbing : (n m : ℕ) (sites : List SiteRow)
+    → ((i : ℕ) → i < length sites → (k : ℕ) × (suc k < n) × ((get_or sites i no_site).address ≡ place k))
+    → ((i j : ℕ) → i < j → j < length sites → (get_or sites i no_site).address + 8 ≤ (get_or sites j no_site).address)
     → (0 < length sites → place m ≤ (get_or sites 0 no_site).address) → Climbs n m (site_words sites)
 sites_climbing n m [] at up low = tt
 sites_climbing n m (x ∷ sites) at up low =

@@ -7,7 +7,7 @@ use Rattle.mv_image.specs.Spelling.{Fields}
 use Rattle.mv_image.specs.Faults.{Rules}
 use Rattle.mv_image.specs.Patched.{Bindings, text_of, ShowsAt}
 use Rattle.mv_patch.specs.declared.prepared.Pair.{Pair}
-use Rattle.mv_patch.specs.Orders.{binding_count, bindings_after}
+use Rattle.mv_patch.specs.Orders.{binding_count, bindings_ordered}
 use Rattle.mv_patch.specs.Pairs.{place, pair_of, pairs_between, IsDifference}
 use Rattle.mv_patch.specs.Tables.{patchable, patched_places, pairs_at}
 
@@ -68,4 +68,4 @@ TablesTellPairs = (image : Fields) → Rules image → (some other : Bindings) �
 
 -- An order leaves one binding for each function and each pointer switch.
 abbrev pub OrdersKeepCount : Type 0
-OrdersKeepCount = (image : Fields) (held : Held) (code index : ℕ) (bs : List Binding) → length bs ≡ binding_count image → length (bindings_after image held code index bs) ≡ binding_count image
+OrdersKeepCount = (image : Fields) (held : Held) (code index : ℕ) (bs : List Binding) → length bs ≡ binding_count image → length (bindings_ordered image held code index bs) ≡ binding_count image

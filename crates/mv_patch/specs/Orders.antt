@@ -79,13 +79,13 @@ word_in held None = 0
 word_in held (Some row) = unwrap_or (result_ok (load held row.address 4)) 0
 
 -- the words of a function's switches
-abbrev pub words_now : Fields → Held → FunctionRow → List ℕ
-words_now image held row = map (λ (s : ℕ). word_in held (slice_get image.switches s)) (take row.count row.switches)
+abbrev pub words_of_switches : Fields → Held → FunctionRow → List ℕ
+words_of_switches image held row = map (λ (s : ℕ). word_in held (slice_get image.switches s)) (take row.count row.switches)
 
 -- what a commit binds a function to: its switches' words where a variant fits them, and else nothing
 abbrev pub bound_now : Fields → Held → (function : ℕ) → FunctionRow → Binding
 bound_now image held function row =
-    let words = words_now image held row in if is_some (fitting_variant image function words) then bound_to words else free
+    let words = words_of_switches image held row in if is_some (fitting_variant image function words) then bound_to words else free
 
 -- what an order binds an addressed function to
 abbrev pub next_binding : Fields → Held → (code function : ℕ) → FunctionRow → Binding
@@ -114,8 +114,8 @@ ordered_rows addressed next i [] bs = []
 ordered_rows addressed next i (row ∷ rows) [] = []
 ordered_rows addressed next i (row ∷ rows) (b ∷ bs) = (if addressed i row then next i row else b) ∷ ordered_rows addressed next (suc i) rows bs
 
-unfoldable pub bindings_after : Fields → Held → (code index : ℕ) → List Binding → List Binding
-bindings_after image held code index bs =
+unfoldable pub bindings_ordered : Fields → Held → (code index : ℕ) → List Binding → List Binding
+bindings_ordered image held code index bs =
     ordered_rows (is_ordered code index) (next_binding image held code) 0 image.functions bs
     ++ ordered_rows (is_pointer_ordered image code index) (next_pointer image held code) 0 image.pointers (pointer_bindings image bs)
 

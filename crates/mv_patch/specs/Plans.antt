@@ -6,7 +6,7 @@ use Rattle.mv_image.specs.Spelling.{Fields}
 use Rattle.mv_image.specs.Patched.{text_of}
 use Rattle.mv_patch.specs.declared.prepared.Pair.{Pair}
 use Rattle.mv_patch.specs.Pairs.{pairs_between}
-use Rattle.mv_patch.specs.Orders.{values_of, bindings_after, answer_after}
+use Rattle.mv_patch.specs.Orders.{values_of, bindings_ordered, answer_after}
 
 -- what makes the text of some bindings that of others
 abbrev pub plan_between : Fields → (old new : List Binding) → List Pair
@@ -20,7 +20,7 @@ pub record Planned : Type 0 where
 
 unfoldable pub plan_of : Fields → Held → List Binding → (code index : ℕ) → Planned
 plan_of image held old code index =
-    let new = bindings_after image held code index old in
+    let new = bindings_ordered image held code index old in
     record { pairs = plan_between image old new; bound = new; answer = answer_after image code index new }
 
 -- a plan, and the number of pairs for which it has memory

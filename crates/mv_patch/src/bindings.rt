@@ -9,7 +9,7 @@ ghost use Rattle.mv_bindings.specs.Bindings.{bound_to, free};
 ghost use Rattle.mv_image.specs.Spelling.{Fields};
 ghost use Rattle.mv_image.specs.Patched.{variant_under, target_under};
 ghost use Rattle.mv_patch.specs.Groups.{IsGroup, IsRow};
-ghost use Rattle.mv_patch.specs.Orders.{code_of, index_of, is_ordered, is_pointer_ordered, binding_count, pointer_bindings, bound_values, values_of, word_in, words_now, bound_now, pointed_now, next_binding, next_pointer, bindings_after, bound_rows, answer_after};
+ghost use Rattle.mv_patch.specs.Orders.{code_of, index_of, is_ordered, is_pointer_ordered, binding_count, pointer_bindings, bound_values, values_of, word_in, words_of_switches, bound_now, pointed_now, next_binding, next_pointer, bindings_ordered, bound_rows, answer_after};
 ghost use Rattle.mv_patch.specs.Shown.{AreShown};
 
 use crate::groups::{Group, first_group, fitting_variant, next_group, row_at};
@@ -54,7 +54,7 @@ fn switch_word(image: &Image, memory: &Memory, switch: u32) -> u32
 /// The words of a function's switches, and zeros behind them.
 fn switch_words(image: &Image, memory: &Memory, row: &FunctionRow) -> [u32; 6]
     requires { row.now.count ≤ 6 }
-    ensures { result ≡ take own_switch_limit (words_now image.now memory.now.held row.now ++ replicate own_switch_limit 0) }
+    ensures { result ≡ take own_switch_limit (words_of_switches image.now memory.now.held row.now ++ replicate own_switch_limit 0) }
 {
     row.has_width();
     let mut words = [0; 6];
@@ -163,7 +163,7 @@ pub(crate) fn rebind(
 )
     requires old { length old.now ≡ binding_count image.now }
     requires new { length new.old ≡ binding_count image.now }
-    ensures { new.new ≡ bindings_after image.now memory.now.held (code_of order) (index_of order) old.now }
+    ensures { new.new ≡ bindings_ordered image.now memory.now.held (code_of order) (index_of order) old.now }
 {
     within_limits(image);
     let mut group = first_group(image);

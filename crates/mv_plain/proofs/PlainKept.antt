@@ -13,7 +13,7 @@ use Rattle.mv_ir.specs.declared.tree.Tree.TheFolds.{map-Tree}
 use Rattle.mv_ir.specs.Operators as operator
 use Rattle.mv_ir.specs.Trees.{Value, tree_value, value, unary, binary}
 use Rattle.mv_ir.specs.Rolled as rolled
-use Rattle.mv_ir.specs.Rolled.{number}
+use Rattle.mv_ir.specs.Rolled.{number, narrow}
 use Rattle.mv_ir.specs.Measures.{tree_reads}
 use Rattle.mv_ir.specs.Live.{reads_temp, layer_reads_temp}
 use Rattle.mv_ir.proofs.Induction.{TreeChildren, tree_ind}
@@ -23,7 +23,7 @@ use Rattle.mv_fold.proofs.Within.{Among, among_append, none_among, Less, less_re
 use Rattle.mv_fold.proofs.FoldedWithin.{of_tree, of_node, of_tree_roll, nodes_less, number_less}
 use Rattle.mv_fold.proofs.Thinner.{or_both}
 use Rattle.mv_fold.proofs.FoldedThinner.{NoMoreRead, number_reads, node_reads}
-use Rattle.mv_plain.specs.Plain.{narrow, is_word, is_truth, truth_node, Plainer, itself, after, in_unary, in_binary, in_narrow, one_number, two_numbers, narrowed, word_stays, truth_stays, turned, neutral, shifted, unequal, equal, twice, asked, denied}
+use Rattle.mv_plain.specs.Plain.{is_word, is_truth, truth_node, Plainer, itself, after, in_unary, in_binary, in_narrow, one_number, two_numbers, narrowed, word_stays, truth_stays, turned, neutral, shifted, unequal, equal, twice, asked, denied}
 use Rattle.mv_plain.proofs.PlainTrees.{word_roll, truth_roll}
 use Rattle.mv_plain.proofs.PlainNumbers.{unary_word, binary_word, comparison_truth, narrow_truth, narrow_word, whole_stays, small_stays, turned_same, neutral_same, shifted_same, unequal_same, equal_same, twice_same, asked_same, denied_same, not_small}
 
@@ -119,7 +119,7 @@ module _ (numbers : List ℕ) (bound : List (ℕ × ℕ)) (temps : List ℕ) (gl
 part_less : (x : Tree-F Tree) (a : Tree) → Less (of_tree a) (of_node x) → Less (of_tree a) (of_tree (roll-Tree x))
 part_less x a h = subst (Less (of_tree a)) (sym (of_tree_roll x)) h
 
-unary_part : (o : ℕ) (a : Tree) → Less (of_tree a) (of_tree (rolled.unary o a))
+pub unary_part : (o : ℕ) (a : Tree) → Less (of_tree a) (of_tree (rolled.unary o a))
 unary_part o a =
     part_less (tree.Unary o a) a
     (record { nodes = omega arith; depth = omega arith; reads = λ g c. c; statements = omega arith; calls = omega arith; arrays = none_among [] })
@@ -129,7 +129,7 @@ narrow_part k a =
     part_less (tree.Narrow k a) a
     (record { nodes = omega arith; depth = omega arith; reads = λ g c. c; statements = omega arith; calls = omega arith; arrays = none_among [] })
 
-left_part : (o : ℕ) (a b : Tree) → Less (of_tree a) (of_tree (rolled.binary o a b))
+pub left_part : (o : ℕ) (a b : Tree) → Less (of_tree a) (of_tree (rolled.binary o a b))
 left_part o a b = part_less (tree.Binary o a b) a (record {
   nodes = omega arith;
   depth = omega arith;

@@ -12,18 +12,10 @@ use Rattle.mv_num.proofs.Numbers.{word_small}
 use Rattle.mv_num.proofs.Signed.{sub_is}
 use Rattle.mv_num.proofs.Booleans.{same_bools, or_cases, and_cases, from_falsity}
 use Rattle.mv_ir.specs.Operators as operator
-use Rattle.mv_ir.specs.Trees.{unary, binary}
-use Rattle.mv_plain.specs.Plain.{gives_word, is_comparison, is_bool, is_whole, commutes, is_neutral}
-
--- ---- truths
-
-pub truth_small : (b : Bool) → as_word b ≤ 1
-truth_small true = omega arith
-truth_small false = omega arith
-
-pub truth_word : (b : Bool) → as_word b < 2 ^ 32
-truth_word true = omega arith
-truth_word false = omega arith
+use Rattle.mv_ir.specs.Operators.{is_comparison}
+use Rattle.mv_ir.specs.Trees.{unary, binary, keeps_words}
+use Rattle.mv_ir.proofs.Common.{one_at_most, truth_small, truth_word}
+use Rattle.mv_plain.specs.Plain.{gives_word, is_bool, commutes, is_neutral}
 
 -- ---- words
 
@@ -86,21 +78,17 @@ signed_word : (low n : ℕ) (b : Bool) → low < 2 ^ 32 → cond b low (word_of 
 signed_word low n true h = h
 signed_word low n false h = word_small _
 
-byte_word : (x : ℕ) → sign_extend 8 x < 2 ^ 32
+pub byte_word : (x : ℕ) → sign_extend 8 x < 2 ^ 32
 unfolding sign_extend
 byte_word x = signed_word (x % 2 ^ 8) (2 ^ 8) (ltb (x % 2 ^ 8) (2 ^ 7)) (omega arith)
 
-half_word : (x : ℕ) → sign_extend 16 x < 2 ^ 32
+pub half_word : (x : ℕ) → sign_extend 16 x < 2 ^ 32
 unfolding sign_extend
 half_word x = signed_word (x % 2 ^ 16) (2 ^ 16) (ltb (x % 2 ^ 16) (2 ^ 15)) (omega arith)
 
-bool_truth : (c : Bool) → cond c 0 1 ≤ 1
-bool_truth true = omega arith
-bool_truth false = omega arith
-
 pub narrow_truth : (k : Kind) (x : ℕ) → is_bool k ≡ true → narrow k x ≤ 1
 unfolding narrow
-narrow_truth kind.Bool x e = bool_truth (eqb x 0)
+narrow_truth kind.Bool x e = one_at_most (eqb x 0)
 narrow_truth kind.SChar x e = from_falsity e
 narrow_truth kind.UChar x e = from_falsity e
 narrow_truth kind.Short x e = from_falsity e
@@ -108,9 +96,9 @@ narrow_truth kind.UShort x e = from_falsity e
 narrow_truth kind.Int x e = from_falsity e
 narrow_truth kind.UInt x e = from_falsity e
 
-pub narrow_word : (k : Kind) (x : ℕ) (b : Bool) → cond (is_whole k) b true ≡ true → (b ≡ true → x < 2 ^ 32) → narrow k x < 2 ^ 32
+pub narrow_word : (k : Kind) (x : ℕ) (b : Bool) → cond (keeps_words k) b true ≡ true → (b ≡ true → x < 2 ^ 32) → narrow k x < 2 ^ 32
 unfolding narrow
-narrow_word kind.Bool x b e h = omega (arith, bool_truth (eqb x 0))
+narrow_word kind.Bool x b e h = omega (arith, one_at_most (eqb x 0))
 narrow_word kind.SChar x b e h = byte_word x
 narrow_word kind.UChar x b e h = omega arith
 narrow_word kind.Short x b e h = half_word x
@@ -119,7 +107,7 @@ narrow_word kind.Int x b e h = h e
 narrow_word kind.UInt x b e h = h e
 
 -- which leave what they are of
-pub whole_stays : (k : Kind) (x : ℕ) → is_whole k ≡ true → narrow k x ≡ x
+pub whole_stays : (k : Kind) (x : ℕ) → keeps_words k ≡ true → narrow k x ≡ x
 unfolding narrow
 whole_stays kind.Bool x e = from_falsity e
 whole_stays kind.SChar x e = from_falsity e

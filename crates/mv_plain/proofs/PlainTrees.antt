@@ -10,10 +10,12 @@ use Rattle.mv_ir.specs.declared.tree.Tree.TheVariants.{rolls-Number, rolls-Temp,
 use Rattle.mv_ir.specs.declared.tree.Tree.TheViews.{roll-Tree, out-roll-Tree, roll-out-Tree}
 use Rattle.mv_ir.specs.declared.tree.Tree.TheFolds.{fold-roll-Tree, map-Tree}
 use Rattle.mv_ir.specs.Operators as operator
+use Rattle.mv_ir.specs.Operators.{is_comparison}
 use Rattle.mv_ir.specs.Trees as value
-use Rattle.mv_ir.specs.Rolled.{number, unary, binary}
+use Rattle.mv_ir.specs.Trees.{keeps_words}
+use Rattle.mv_ir.specs.Rolled.{number, unary, binary, narrow}
 use Rattle.mv_fold.specs.Simple.{layer_constant, constant}
-use Rattle.mv_plain.specs.Plain.{narrow, gives_word, word_node, is_word, is_comparison, is_bool, truth_node, is_truth, is_whole, commutes, Plainer, itself, after, in_unary, in_binary, in_narrow, one_number, two_numbers, narrowed, turned, shifted, unequal, equal, twice, asked, denied}
+use Rattle.mv_plain.specs.Plain.{gives_word, word_node, is_word, is_bool, truth_node, is_truth, commutes, Plainer, itself, after, in_unary, in_binary, in_narrow, one_number, two_numbers, narrowed, turned, shifted, unequal, equal, twice, asked, denied}
 
 -- ---- words
 
@@ -42,7 +44,7 @@ word_unary o a = ap is_word (sym (rolls-Unary o a)) ∙ word_roll (tree.Unary o 
 pub word_binary : (o : ℕ) (a b : Tree) → is_word (tr.Binary o a b) ≡ gives_word o (is_word a) (is_word b)
 word_binary o a b = ap is_word (sym (rolls-Binary o a b)) ∙ word_roll (tree.Binary o a b)
 
-pub word_narrow : (k : Kind) (a : Tree) → is_word (tr.Narrow k a) ≡ cond (is_whole k) (is_word a) true
+pub word_narrow : (k : Kind) (a : Tree) → is_word (tr.Narrow k a) ≡ cond (keeps_words k) (is_word a) true
 word_narrow k a = ap is_word (sym (rolls-Narrow k a)) ∙ word_roll (tree.Narrow k a)
 
 pub ruleset words = (word_number, word_temp, word_global, word_function, word_unary, word_binary, word_narrow)

@@ -8,7 +8,6 @@ use Rattle.mv_ir.specs.declared.tree.Tree.{Tree, out-Tree}
 use Rattle.mv_ir.specs.declared.tree.Tree.TheOpen.{Tree-F}
 use Rattle.mv_ir.specs.declared.tree.Tree.TheOpen as tree
 use Rattle.mv_ir.specs.declared.tree.Tree.TheFolds.{fold-Tree}
-use Rattle.mv_ir.specs.declared.tree.Tree.TheViews.{roll-Tree}
 use Rattle.mv_ir.specs.declared.stm.Array.{Array}
 use Rattle.mv_ir.specs.declared.stm.Callee.{Callee}
 use Rattle.mv_ir.specs.declared.stm.Callee.TheVariants as callee
@@ -16,11 +15,10 @@ use Rattle.mv_ir.specs.declared.stm.Stm.{Stm}
 use Rattle.mv_ir.specs.declared.stm.Stm.TheOpen as stm
 use Rattle.mv_ir.specs.declared.stm.Stm.TheViews.{roll-Stm}
 use Rattle.mv_ir.specs.Operators as operator
+use Rattle.mv_ir.specs.Operators.{is_comparison}
 use Rattle.mv_ir.specs.Trees as value
-use Rattle.mv_ir.specs.Rolled.{number, unary, binary}
-
-abbrev pub narrow : Kind → Tree → Tree
-narrow k a = roll-Tree (tree.Narrow k a)
+use Rattle.mv_ir.specs.Trees.{keeps_words}
+use Rattle.mv_ir.specs.Rolled.{number, unary, binary, narrow}
 
 -- ---- what a tree's value is sure to be, whatever temporaries and globals hold
 
@@ -31,25 +29,16 @@ gives_word o a b =
     (cond (eqb o operator.bit_or || eqb o operator.bit_xor) (a && b)
     (cond (eqb o operator.shift_right_unsigned) a (cond (eqb o operator.shift_right_signed) false true)))
 
--- of the kinds that a conversion to leaves any number as it is
-abbrev pub is_whole : Kind → Bool
-is_whole kind.Int = true
-is_whole kind.UInt = true
-is_whole _ = false
-
 abbrev pub word_node : Tree-F Bool → Bool
 word_node (tree.Number n) = ltb n (2 ^ 32)
 word_node (tree.Unary o a) = true
 word_node (tree.Binary o a b) = gives_word o a b
-word_node (tree.Narrow k a) = cond (is_whole k) a true
+word_node (tree.Narrow k a) = cond (keeps_words k) a true
 word_node _ = false
 
 -- below 2^32
 unfoldable pub is_word : Tree → Bool
 is_word = fold-Tree Bool word_node
-
-abbrev pub is_comparison : ℕ → Bool
-is_comparison o = leb operator.less_signed o && leb o operator.not_equal
 
 abbrev pub is_bool : Kind → Bool
 is_bool kind.Bool = true
@@ -90,7 +79,7 @@ pub data Plainer : Tree → Tree → Type 0 where
   two_numbers : (o n m : ℕ) → Plainer (binary o (number n) (number m)) (number (value.binary o n m))
   narrowed : (k : Kind) (n : ℕ) → Plainer (narrow k (number n)) (number (word.narrow k n))
   -- conversions that change nothing
-  word_stays : (k : Kind) (a : Tree) → is_whole k ≡ true → Plainer (narrow k a) a
+  word_stays : (k : Kind) (a : Tree) → keeps_words k ≡ true → Plainer (narrow k a) a
   truth_stays : (k : Kind) (a : Tree) → is_truth a ≡ true → Plainer (narrow k a) a
   -- a number goes to the right, and is left out where it changes nothing; a product by a power of two is a shift
   turned : (o n : ℕ) (a : Tree) → commutes o ≡ true → Plainer (binary o (number n) a) (binary o a (number n))

@@ -1,9 +1,11 @@
 //! Trees with the same values in fewer steps.
 ghost use Rattle.std.specs.Prelude.{◌≡◌, ◌<◌, ◌^◌, true, IfOk, IfSome};
 ghost use Rattle.mv_ir.specs.declared.tree.Tree.{Tree};
-ghost use Rattle.mv_ir.specs.Operators.{logical_not, mul};
+ghost use Rattle.mv_ir.specs.Operators.{logical_not, mul, is_comparison};
 ghost use Rattle.mv_ir.specs.Rolled as rolled;
-ghost use Rattle.mv_plain.specs.Plain.{narrow as narrowed, is_word, is_comparison, is_bool, is_truth, is_whole, commutes, is_neutral};
+ghost use Rattle.mv_ir.specs.Rolled.{narrow as narrowed};
+ghost use Rattle.mv_ir.specs.Trees.{keeps_words};
+ghost use Rattle.mv_plain.specs.Plain.{is_word, is_bool, is_truth, commutes, is_neutral};
 ghost use Rattle.mv_plain.specs.Plain.{Plainer, ArePlainer, IsPlainerCallee, PlainCode, PlainStm};
 
 use mv_fold::operator::{binary, unary};
@@ -21,7 +23,7 @@ use std::alloc::{AllocError, Global};
 
 // Whether a conversion to a kind leaves any number as it is.
 fn is_whole(kind: Kind) -> bool
-    ensures { result ≡ is_whole kind }
+    ensures { result ≡ keeps_words kind }
 {
     match kind {
         Kind::Int => true,

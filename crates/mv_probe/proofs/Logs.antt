@@ -60,11 +60,21 @@ module _ {P K : Type 0} (object : P → K) (of : P → Hearing) where
       fates_then (Becomes object of xs) (Becomes object of ys) (Becomes object of (xs ++ ys))
       (λ x r. (omega (arith, sum, r.0), leaves_more (of x).patience (length xs) (length ys) (length (xs ++ ys)) sum r.1))
       (λ x y r t. (omega (arith, sum, t.0), leaves_later (of x).patience (of y).patience (length xs) (length ys) (length (xs ++ ys)) sum r.1.1 t.1))
-      (λ x y z r t. (stays_more (of x).patience (of y).patience (length xs) (length ys) (length (xs ++ ys)) sum r.1.1 r.0 t.0, (told_more (of x).told (of y).told (of z).told xs ys r.1.0 t.1.0, rest_more (of x).patience (of y).patience (of z).patience (length xs) (length ys) (length (xs ++ ys)) sum r.1.1 t.1.1), t.2 ∙ r.2))
+      (λ x y z r t. (
+        stays_more (of x).patience (of y).patience (length xs) (length ys) (length (xs ++ ys)) sum r.1.1 r.0 t.0,
+        (
+          told_more (of x).told (of y).told (of z).told xs ys r.1.0 t.1.0,
+          rest_more (of x).patience (of y).patience (of z).patience (length xs)
+              (length ys) (length (xs ++ ys)) sum r.1.1 t.1.1,
+        ),
+        t.2 ∙ r.2,
+      ))
       was now after f s
 
   -- the events up to a place, and then the one at the place
-  pub told_next : (events : List Event) (place : ℕ) (other : Event) (was now after : List P) → place < length events → Fates (Becomes object of (take place events)) was now → Fates (Becomes object of (get_or events place other ∷ [])) now after → Fates (Becomes object of (take (place + 1) events)) was after
+  pub told_next : (events : List Event) (place : ℕ) (other : Event) (was now after : List P) → place < length events
+      → Fates (Becomes object of (take place events)) was now → Fates (Becomes object of (get_or events place other ∷ [])) now after
+      → Fates (Becomes object of (take (place + 1) events)) was after
   told_next events place other was now after lt f s = subst (λ l. Fates (Becomes object of l) was after) (sym (take_more events place other lt)) (told_then (take place events) (get_or events place other ∷ []) was now after f s)
 
   pub told_whole : (events : List Event) (place : ℕ) (was now : List P) → length events ≤ place → Fates (Becomes object of (take place events)) was now → Fates (Becomes object of events) was now

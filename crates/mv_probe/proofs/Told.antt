@@ -20,7 +20,8 @@ module _ {P K : Type 0} (object : P → K) (of : P → Hearing) (event : Event) 
   later : (now : List P) (place : ℕ) → All (λ probe. IsPatient (of probe)) (drop place now) → All (λ probe. IsPatient (of probe)) (drop (place + 1) now)
   later now place all = subst (λ l. All (λ probe. IsPatient (of probe)) l) (drop-drop 1 place now) (All-drop (λ probe. IsPatient (of probe)) 1 (drop place now) all)
 
-  pub telling_kept : (now : List P) (place : ℕ) (x y : P) → place < length now → x ≡ get_or now place x → Answers (of x) Keep → Hears (event ∷ []) (of x) (of y) → object y ≡ object x → Telling now place → Telling (set now place y) (place + 1)
+  pub telling_kept : (now : List P) (place : ℕ) (x y : P) → place < length now → x ≡ get_or now place x → Answers (of x) Keep
+      → Hears (event ∷ []) (of x) (of y) → object y ≡ object x → Telling now place → Telling (set now place y) (place + 1)
   telling_kept now place x y lt is answer hears same t = record {
     within = omega (arith, lt, length-set now place y);
     patient = subst (λ l. All (λ probe. IsPatient (of probe)) l) (sym (drop-set-lt (place + 1) now place y (omega arith))) (later now place t.patient);
@@ -30,7 +31,8 @@ module _ {P K : Type 0} (object : P → K) (of : P → Hearing) (event : Event) 
   pub telling_left : (now new : List P) (place : ℕ) (x y : P) → place < length now → x ≡ get_or now place x → Answers (of x) Leave → new ≡ remove (set now place y) place → Telling now place → Telling new place
   telling_left now new place x y lt is answer left t =
       let lt' : place < length (set now place y) = omega (arith, lt, length-set now place y) in
-      let in_turn : InTurn (Becomes object of (event ∷ [])) from (remove (set now place y) place) place = in_turn_left (Becomes object of (event ∷ [])) from now place x y lt t.done (omega arith, subst (λ z. Answers (of z) Leave) is answer) in
+      let in_turn : InTurn (Becomes object of (event ∷ [])) from (remove (set now place y) place) place =
+      in_turn_left (Becomes object of (event ∷ [])) from now place x y lt t.done (omega arith, subst (λ z. Answers (of z) Leave) is answer) in
       let patient : All (λ probe. IsPatient (of probe)) (drop place (remove (set now place y) place)) = subst (λ l. All (λ probe. IsPatient (of probe)) l) (sym (removed_after now place y lt)) (later now place t.patient) in
       let at_removed : Telling (remove (set now place y) place) place = record {
         within = omega (arith, lt', length-remove (set now place y) place lt');

@@ -1,14 +1,14 @@
 -- Facts hold on where what they go by stays, and behind what makes them.
-use Rattle.std.proofs.Common.{◌≡◌, ◌≢◌, ℕ, zero, suc, ◌<◌, ◌≤◌, ◌⊎◌, inl, inr, false, eqb, List, [], ◌∷◌, length, Option, Some, None, refl, sym, ◌∙◌, subst, ap, arith}
+use Rattle.std.proofs.Common.{◌≡◌, ℕ, ◌<◌, ◌≤◌, ◌⊎◌, inl, inr, false, eqb, List, [], length, Option, Some, None, refl, sym, ◌∙◌, subst, ap, arith}
 use Rattle.std.specs.Prelude.{◌||◌, slice_index, slice_set, slice_index_or, Contains}
 use Rattle.std.proofs.lemmas.Bool.{eqb-false, or_parts, true≢false}
-use Rattle.std.proofs.lemmas.List.{get_or-set_other, length-set}
-use Rattle.std.proofs.lemmas.Grind.{get_or-set_at}
+use Rattle.std.proofs.lemmas.List.{get_or-set_other, length-set, set-get_or}
 use Rattle.mv_ir.specs.declared.stm.Array.{Array}
 use Rattle.mv_ir.specs.declared.stm.Array.TheVariants as array
 use Rattle.mv_ir.specs.World.{World}
 use Rattle.mv_ir.specs.Outcome.{State}
 use Rattle.mv_ir.specs.Meaning.{elements, with_temp, with_elements, with_world, put}
+use Rattle.mv_ir.proofs.Arrays.{written_value, elements_temp, temps_elements}
 use Rattle.mv_propagate.specs.declared.facts.Leaf.{Leaf}
 use Rattle.mv_propagate.specs.declared.facts.Leaf.TheVariants.{Number, Temp}
 use Rattle.mv_propagate.specs.declared.facts.Held.{Held}
@@ -33,30 +33,18 @@ held_on s s' t (Element a i) e k h = (
 
 -- ---- a temporary is written
 
-differ : (u t : ℕ) → eqb u t ≡ false → u ≢ t
-differ u t e = eqb-false u t e
-
-elements_on : (a : Array) (s : State) (t v : ℕ) → elements a (with_temp s t v) ≡ elements a s
-elements_on (array.Global g) s t v = refl
-elements_on (array.Local l) s t v = refl
-elements_on (array.SureGlobal g n) s t v = refl
-elements_on (array.SureLocal l n) s t v = refl
-
 leaf_on : (s : State) (t v : ℕ) (l : Leaf) → leaf_is t l ≡ false → leaf_value (with_temp s t v) l ≡ leaf_value s l
 leaf_on s t v (Number n) e = refl
-leaf_on s t v (Temp u) e = get_or-set_other s.temps t u v 0 (differ u t e)
+leaf_on s t v (Temp u) e = get_or-set_other s.temps t u v 0 (eqb-false u t e)
 
 same_held : (s : State) (t v : ℕ) (h : Held) → held_by t h ≡ false → SameHeld s (with_temp s t v) h
 same_held s t v (Value l) e = leaf_on s t v l e
-same_held s t v (Element a i) e = (leaf_on s t v i e, elements_on a s t v)
+same_held s t v (Element a i) e = (leaf_on s t v i e, elements_temp a s t v)
 
 fact_on : (s : State) (t v : ℕ) (f : Fact) → names t f ≡ false → Holds s f → Holds (with_temp s t v) f
 fact_on s t v f e h =
     let both = or_parts (eqb f.temp t) (held_by t f.held) e in
-    held_on s (with_temp s t v) f.temp f.held (get_or-set_other s.temps t f.temp v 0 (differ f.temp t both.0)) (same_held s t v f.held both.1) h
-
-written_value : (s : State) (t v : ℕ) → t < length s.temps → slice_index (with_temp s t v).temps t ≡ v
-written_value s t v lt = get_or-set_at s.temps t t v 0 refl lt
+    held_on s (with_temp s t v) f.temp f.held (get_or-set_other s.temps t f.temp v 0 (eqb-false f.temp t both.0)) (same_held s t v f.held both.1) h
 
 -- ---- elements are written
 
@@ -81,23 +69,17 @@ other_elements (array.SureLocal l m) (array.SureGlobal h n) s xs e = refl
 other_elements (array.SureLocal l m) (array.Local k) s xs e = other_list s.arrays l k xs e
 other_elements (array.SureLocal l m) (array.SureLocal k n) s xs e = other_list s.arrays l k xs e
 
-same_temps : (r : Array) (s : State) (xs : List ℕ) → (with_elements r s xs).temps ≡ s.temps
-same_temps (array.Global g) s xs = refl
-same_temps (array.Local l) s xs = refl
-same_temps (array.SureGlobal g n) s xs = refl
-same_temps (array.SureLocal l n) s xs = refl
-
 leaf_same : (s s' : State) (l : Leaf) → s'.temps ≡ s.temps → leaf_value s' l ≡ leaf_value s l
 leaf_same s s' (Number n) e = refl
 leaf_same s s' (Temp u) e = ap (λ ts. slice_index ts u) e
 
 held_stored : (r : Array) (s : State) (xs : List ℕ) (t : ℕ) (h : Held) → goes_by r (fact t h) ≡ false → SameHeld s (with_elements r s xs) h
-held_stored r s xs t (Value l) e = leaf_same s (with_elements r s xs) l (same_temps r s xs)
-held_stored r s xs t (Element a i) e = (leaf_same s (with_elements r s xs) i (same_temps r s xs), other_elements r a s xs e)
+held_stored r s xs t (Value l) e = leaf_same s (with_elements r s xs) l (temps_elements r s xs)
+held_stored r s xs t (Element a i) e = (leaf_same s (with_elements r s xs) i (temps_elements r s xs), other_elements r a s xs e)
 
 fact_stored : (r : Array) (s : State) (xs : List ℕ) (f : Fact) → goes_by r f ≡ false → Holds s f → Holds (with_elements r s xs) f
 fact_stored r s xs f e h =
-    held_on s (with_elements r s xs) f.temp f.held (ap (λ ts. slice_index ts f.temp) (same_temps r s xs)) (held_stored r s xs f.temp f.held e) h
+    held_on s (with_elements r s xs) f.temp f.held (ap (λ ts. slice_index ts f.temp) (temps_elements r s xs)) (held_stored r s xs f.temp f.held e) h
 
 -- ---- something is called
 
@@ -137,7 +119,7 @@ module _ (temps : ℕ) where
 
   pub stored_known : (facts after : List Fact) (r : Array) (s : State) (xs : List ℕ) → Unstored r facts after → AreKnown temps facts s → AreKnown temps after (with_elements r s xs)
   stored_known facts after r s xs stay known = record {
-    enough = (let k = known.enough in omega (arith, k, ap length (same_temps r s xs)));
+    enough = (let k = known.enough in omega (arith, k, ap length (temps_elements r s xs)));
     true = λ f c. let was = stay f c in fact_stored r s xs f was.1 (known.true f was.0);
   }
 
@@ -165,16 +147,11 @@ module _ (temps : ℕ) where
   element_held s t r l lt e within =
       let v = slice_index (elements r s) (leaf_value s l) in
       let same : leaf_value (with_temp s t v) l ≡ leaf_value s l = leaf_on s t v l e in
-      let all : elements r (with_temp s t v) ≡ elements r s = elements_on r s t v in (
+      let all : elements r (with_temp s t v) ≡ elements r s = elements_temp r s t v in (
         omega (arith, within, same, ap length all),
         written_value s t v lt ∙ sym (ap (slice_index (elements r (with_temp s t v))) same ∙ ap (λ xs. slice_index xs (leaf_value s l)) all),
       )
 
-same_list : (xs : List ℕ) (t : ℕ) → slice_set xs t (slice_index xs t) ≡ xs
-same_list [] t = refl
-same_list (x ∷ xs) zero = refl
-same_list (x ∷ xs) (suc t) = ap (λ ys. x ∷ ys) (same_list xs t)
-
 -- what a temporary holds, put into it
 pub same_state : (s : State) (t : ℕ) → with_temp s t (slice_index s.temps t) ≡ s
-same_state s t = ap (λ ts. let made : State = record s { temps = ts } in made) (same_list s.temps t)
+same_state s t = ap (λ ts. let made : State = record s { temps = ts } in made) (set-get_or s.temps t 0)

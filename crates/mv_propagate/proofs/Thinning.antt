@@ -1,7 +1,7 @@
 -- Where what temporaries hold is read in their place, no temporary is live that wasn't, but those that a fact there reads.
 -- At the start of a body there are no facts. What facts read is one of the body's temporaries.
 use Rattle.std.proofs.Common.{arith, ◌≡◌, ℕ, zero, suc, ◌<◌, Bool, true, false, not, eqb, ltb, ◌&&◌, ◌||◌, List, [], ◌∷◌, ◌++◌, map, Option, Some, None, refl, sym, ◌∙◌, ap, subst, ◌⊎◌, inl, inr, Contains}
-use Rattle.std.proofs.lemmas.Bool.{eq-eqb, eqb-true, ne_eqb, or_left, or_right}
+use Rattle.std.proofs.lemmas.Bool.{eq-eqb, eqb-true, ne_eqb, or_left, or_right, not-true}
 use Rattle.mv_num.proofs.Booleans.{or_cases, and_cases, from_falsity}
 use Rattle.mv_ast.specs.Names.{any_of}
 use Rattle.mv_ir.specs.declared.tree.Tree.{Tree}
@@ -20,6 +20,7 @@ use Rattle.mv_ir.specs.Rolled.{temp, unary, binary, choose, repeat, enclosed}
 use Rattle.mv_ir.proofs.Rolls.{same_functions, reads_temp_roll, flow_roll, flow_of_layer}
 use Rattle.mv_fold.proofs.Marks.{any_marked, marked_any, any_left, any_right, any_cases}
 use Rattle.mv_fold.proofs.Thinner.{or_both}
+use Rattle.mv_fold.proofs.Reached.{eqb_self}
 use Rattle.mv_propagate.specs.declared.facts.Leaf.{Leaf}
 use Rattle.mv_propagate.specs.declared.facts.Leaf.TheVariants.{Number, Temp}
 use Rattle.mv_propagate.specs.declared.facts.Held.{Held}
@@ -29,9 +30,6 @@ use Rattle.mv_propagate.specs.Facts.{tree_of, leaf_is, IsLow, held_by, names, na
 use Rattle.mv_propagate.specs.Propagating.{fact, Reads, itself, held, in_unary, in_binary, in_narrow, ReadsAll, no_trees, more_trees, ReadsCallee, same_callee, through, Uncalled, Fewer, Learned, Propagated, none, more, PropagatedIn, computed, copied, stored, divided, checked, fetched, kept, moved, there, written, zeroed, choice, turns, block, leave, again, called, asked, returned}
 
 -- ---- facts
-
-same_temp : (t : ℕ) → eqb t t ≡ true
-same_temp t = eq-eqb t t refl
 
 no_facts : {A : Type 0} (f : Fact) → Contains [] f → A
 no_facts f c = absurd (omega (arith, c.1))
@@ -158,7 +156,7 @@ module _ (temps x : ℕ) where
   held_wanted : (facts : List Fact) (t : ℕ) (l : Leaf) → Contains facts (fact t (Value l)) → reads_temp x (tree_of l) ≡ true → Wanted facts (λ u. reads_temp u (temp t))
   held_wanted facts t (Number n) c e = from_falsity (sym (reads_temp_roll x (tree.Number n)) ∙ e)
   held_wanted facts t (Temp u) c e =
-      copy t (subst (λ v. Contains facts (fact t (Value (Temp v)))) (eqb-true u x (sym (reads_temp_roll x (tree.Temp u)) ∙ e)) c) (reads_temp_roll t (tree.Temp t) ∙ same_temp t)
+      copy t (subst (λ v. Contains facts (fact t (Value (Temp v)))) (eqb-true u x (sym (reads_temp_roll x (tree.Temp u)) ∙ e)) c) (reads_temp_roll t (tree.Temp t) ∙ eqb_self t)
 
   reads_wanted : (facts : List Fact) (v w : Tree) → Reads facts v w → reads_temp x w ≡ true → Wanted facts (λ t. reads_temp t v)
   reads_wanted facts v w (itself y) e = self e
@@ -234,7 +232,7 @@ module _ (temps x : ℕ) where
       by : (fact u (Value (Temp x)) ≡ fact t h) ⊎ (Contains facts (fact u (Value (Temp x))) × (names t (fact u (Value (Temp x))) ≡ false)) → Wanted facts (λ v. q v || (not (eqb t v) && p v))
       by (inl d) =
           wanted_more facts q (λ v. q v || (not (eqb t v) && p v)) (λ v i. or_left (q v) (not (eqb t v) && p v) i)
-          (g (sym (ap (λ (f : Fact). held_by x f.held) d) ∙ same_temp x) (sym (ap (λ (f : Fact). is_element f.held) d)))
+          (g (sym (ap (λ (f : Fact). held_by x f.held) d) ∙ eqb_self x) (sym (ap (λ (f : Fact). is_element f.held) d)))
       by (inr d) = copy u d.0 (or_right (q u) _ (unwritten (eqb t u) (p u) (other (Some t) u (Value (Temp x)) d.1) e))
   learned_wanted t h facts after q p l ne g (element a i c) = by (l (fact x (Element a i)) c)
     where
@@ -332,14 +330,10 @@ module _ (temps x : ℕ) where
       (is w x ≡ false → on r' ≡ true → Wanted facts (λ t. any_reads t ts || (not (is w t) && on (r t)))) → FlowThin facts (λ t. plain t ts w on) (plain x us w on) r r'
   plain_thin facts ts us w on r r' k reads goes = record { live = live; marks = λ e. drop (or_cases _ false e) }
     where
-      off : (b : Bool) → not b ≡ true → b ≡ false
-      off true e = from_falsity e
-      off false e = refl
-
       by : (any_reads x us ≡ true) ⊎ ((not (is w x) && on r') ≡ true) → Wanted facts (λ t. any_reads t ts || (not (is w t) && on (r t)))
       by (inl e) =
           wanted_more facts (λ t. any_reads t ts) (λ t. any_reads t ts || (not (is w t) && on (r t))) (λ t i. or_left (any_reads t ts) (not (is w t) && on (r t)) i) (reads e)
-      by (inr e) = let parts = and_cases (not (is w x)) (on r') e in goes (off (is w x) parts.0) parts.1
+      by (inr e) = let parts = and_cases (not (is w x)) (on r') e in goes (not-true (is w x) parts.0) parts.1
 
       live : (any_reads x us || (not (is w x) && on r')) ≡ true → Wanted facts (λ t. any_reads t ts || (not (is w t) && on (r t)))
       live e = by (or_cases (any_reads x us) (not (is w x) && on r') e)

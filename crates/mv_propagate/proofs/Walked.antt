@@ -1,8 +1,7 @@
 -- How the walk over code goes on, and what it gives.
-use Rattle.std.proofs.Common.{◌≡◌, ℕ, ◌+◌, ◌<◌, Bool, true, false, eqb, length, take, get_or, List, [], ◌∷◌, ◌++◌, Option, refl, sym, ◌∙◌, ap, subst}
+use Rattle.std.proofs.Common.{◌≡◌, ℕ, ◌+◌, ◌<◌, false, eqb, length, take, get_or, List, [], ◌∷◌, ◌++◌, Option, refl, sym, ◌∙◌, ap, subst}
 use Rattle.std.specs.Prelude.{Contains}
 use Rattle.std.proofs.lemmas.List.{take_more}
-use Rattle.std.proofs.lemmas.Bool.{eqb-true}
 use Rattle.mv_ast.specs.declared.program.Known.{Known}
 use Rattle.mv_ir.specs.Rolled as rolled
 use Rattle.mv_ir.specs.declared.tree.Tree.{Tree}
@@ -22,13 +21,6 @@ use Rattle.mv_propagate.specs.declared.facts.Held.TheVariants.{Value, Element}
 use Rattle.mv_propagate.specs.declared.facts.Fact.{Fact}
 use Rattle.mv_propagate.specs.Facts.{tree_of, leaf_is, IsLow}
 use Rattle.mv_propagate.specs.Propagating.{fact, Reads, ReadsAll, ReadsCallee, Unwritten, Unstored, Uncalled, Fewer, Learned, Propagated, none, more, PropagatedIn, computed, copied, stored, divided, checked, fetched, kept, moved, there, written, zeroed, choice, turns, block, leave, again, called, asked, returned}
-
-pub unequal : (a b : ℕ) → (a ≡ b → ⊥) → eqb a b ≡ false
-unequal a b ne = by (eqb a b) refl
-  where
-    by : (c : Bool) → eqb a b ≡ c → eqb a b ≡ false
-    by true e = absurd (ne (eqb-true a b e))
-    by false e = e
 
 module _ (temps : ℕ) where
   -- ---- code
@@ -60,7 +52,8 @@ module _ (temps : ℕ) where
     between s s' y y' e f h = subst (λ x. Goes x y') e (subst (Goes s) f h)
 
     -- a value that is known then, and another
-    pub sets_leaf : (t : ℕ) (v w x : Tree) (l : Leaf) → Reads facts v w → w ≡ tree_of l → x ≡ tree_of l → (t < temps) × (IsLow temps l × (leaf_is t l ≡ false)) → Learned t (Value l) facts after →
+    pub sets_leaf : (t : ℕ) (v w x : Tree) (l : Leaf) → Reads facts v w → w ≡ tree_of l → x ≡ tree_of l →
+        (t < temps) × (IsLow temps l × (leaf_is t l ≡ false)) → Learned t (Value l) facts after →
         Goes (rolled.set t v) (at.Set t x)
     sets_leaf t v w x l h e f low k =
         between _ _ _ _ refl (ap (rolled.set t) (sym f) ∙ rolls-Set t x) (copied facts after t v l (subst (Reads facts v) e h) low.0 low.1.0 low.1.1 k)
@@ -69,7 +62,8 @@ module _ (temps : ℕ) where
     sets t v w h k = between _ _ _ _ refl (rolls-Set t w) (computed facts after t v w h k)
 
     -- an element that is known then, and another
-    pub reads_leaf : (t : ℕ) (r : Array) (i j : Tree) (l : Leaf) → Reads facts i (tree_of l) → j ≡ tree_of l → (t < temps) × (IsLow temps l × (leaf_is t l ≡ false)) → Learned t (Element r l) facts after →
+    pub reads_leaf : (t : ℕ) (r : Array) (i j : Tree) (l : Leaf) → Reads facts i (tree_of l) → j ≡ tree_of l →
+        (t < temps) × (IsLow temps l × (leaf_is t l ≡ false)) → Learned t (Element r l) facts after →
         Goes (rolled.read t r i) (at.Read t r j)
     reads_leaf t r i j l h e low k =
         between _ _ _ _ refl (ap (rolled.read t r) (sym e) ∙ rolls-Read t r j) (kept facts after t r i l h low.0 low.1.0 low.1.1 k)
@@ -91,7 +85,8 @@ module _ (temps : ℕ) where
         (subst (λ y. PropagatedIn temps facts (rolled.read t r i) y facts) (ap (rolled.set t) (rolls-Temp t) ∙ rolls-Set t (tr.Temp t))
         (there facts t r i l h (subst (λ x. Contains facts (fact x (Element r l))) same c) low)))
 
-    pub chooses : (first second : List Fact) (t u : Tree) (a a' b b' : List Stm) → Reads facts t u → Propagated temps facts a a' first → Propagated temps facts b b' second → Fewer first after →
+    pub chooses : (first second : List Fact) (t u : Tree) (a a' b b' : List Stm) → Reads facts t u → Propagated temps facts a a' first →
+        Propagated temps facts b b' second → Fewer first after →
         Fewer second after → Goes (rolled.choose t a b) (at.If u a' b')
     chooses first second t u a a' b b' h ka kb f g = between _ _ _ _ refl (rolls-If u a' b') (choice facts first second after t u a a' b b' h ka kb f g)
 
@@ -112,7 +107,8 @@ module _ (temps : ℕ) where
       pub after_zero : (l : ℕ) → s ≡ at.Zero l → Unstored (array.Local l) some after → Goes s (at.Zero l)
       after_zero l e k = between _ _ _ _ (rolls-Zero l ∙ sym e) (rolls-Zero l) (zeroed facts after l (subst (λ fs. Unstored (array.Local l) fs after) same k))
 
-      pub after_call : (r : Option ℕ) (f f' : Callee) (xs ys : List Tree) → s ≡ at.Call r f xs → ReadsCallee some f f' → ReadsAll some xs ys → Uncalled r some after → Goes s (at.Call r f' ys)
+      pub after_call : (r : Option ℕ) (f f' : Callee) (xs ys : List Tree) → s ≡ at.Call r f xs → ReadsCallee some f f' → ReadsAll some xs ys →
+          Uncalled r some after → Goes s (at.Call r f' ys)
       after_call r f f' xs ys e h h' k = between _ _ _ _ (rolls-Call r f xs ∙ sym e) (rolls-Call r f' ys)
           (called facts after r f f' xs ys (subst (λ fs. ReadsCallee fs f f') same h) (subst (λ fs. ReadsAll fs xs ys) same h') (subst (λ fs. Uncalled r fs after) same k))
 
@@ -154,22 +150,5 @@ module _ (temps : ℕ) where
       pub after_back : (n : ℕ) → s ≡ at.Back n → after ≡ facts → Goes s (at.Back n)
       after_back n e is =
           subst (PropagatedIn temps facts s (at.Back n)) (sym is)
-          (subst (λ x. PropagatedIn temps facts x (at.Back n) facts) (rolls-Back n ∙ sym e) (subst (λ y. PropagatedIn temps facts (roll-Stm (stm.Back n)) y facts) (rolls-Back n) (again facts n)))
-
-pub ruleset statements = (
-  after_store,
-  after_divide,
-  after_write,
-  after_zero,
-  after_call,
-  after_known,
-  after_check,
-  after_return,
-  after_set,
-  after_read,
-  after_choice,
-  after_loop,
-  after_block,
-  after_break,
-  after_back,
-)
+          (subst (λ x. PropagatedIn temps facts x (at.Back n) facts) (rolls-Back n ∙ sym e)
+          (subst (λ y. PropagatedIn temps facts (roll-Stm (stm.Back n)) y facts) (rolls-Back n) (again facts n)))

@@ -83,9 +83,11 @@ mutual
     -- an element, one that is known then, and one that stands in a temporary already, be it that one
     fetched : (facts after : List Fact) (t : ℕ) (r : Array) (i j : Tree) → Reads facts i j → Unwritten t facts after →
         PropagatedIn temps facts (read t r i) (read t r j) after
-    kept : (facts after : List Fact) (t : ℕ) (r : Array) (i : Tree) (l : Leaf) → Reads facts i (tree_of l) → t < temps → IsLow temps l → leaf_is t l ≡ false → Learned t (Element r l) facts after →
+    kept : (facts after : List Fact) (t : ℕ) (r : Array) (i : Tree) (l : Leaf) → Reads facts i (tree_of l) → t < temps → IsLow temps l →
+        leaf_is t l ≡ false → Learned t (Element r l) facts after →
         PropagatedIn temps facts (read t r i) (read t r (tree_of l)) after
-    moved : (facts after : List Fact) (t u : ℕ) (r : Array) (i : Tree) (l : Leaf) → Reads facts i (tree_of l) → Contains facts (fact u (Element r l)) → t < temps → u < temps → eqb u t ≡ false →
+    moved : (facts after : List Fact) (t u : ℕ) (r : Array) (i : Tree) (l : Leaf) → Reads facts i (tree_of l) →
+        Contains facts (fact u (Element r l)) → t < temps → u < temps → eqb u t ≡ false →
         Learned t (Value (Temp u)) facts after → PropagatedIn temps facts (read t r i) (set t (temp u)) after
     there : (facts : List Fact) (t : ℕ) (r : Array) (i : Tree) (l : Leaf) → Reads facts i (tree_of l) → Contains facts (fact t (Element r l)) → t < temps →
         PropagatedIn temps facts (read t r i) (set t (temp t)) facts

@@ -182,7 +182,7 @@ pub fn propagate_code(
     })
 }
 
-// What a statement becomes.
+// What a statement becomes: an arm for each.
 #[cycle(propagate)]
 fn propagate_stm(
     alloc: Global,

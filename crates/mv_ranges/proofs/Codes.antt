@@ -1,8 +1,7 @@
 -- Code with promises does the same: choices, loops, blocks, lists and bodies.
-use Rattle.std.proofs.Common.{◌≡◌, ℕ, zero, suc, ◌+◌, ◌*◌, ◌<◌, ◌≤◌, Bool, true, false, cond, eqb, List, [], ◌∷◌, ◌++◌, length, get_or, take, map, refl, sym, ◌∙◌, subst, ap, arith}
+use Rattle.std.proofs.Common.{◌≡◌, ℕ, zero, suc, ◌+◌, ◌*◌, ◌<◌, Bool, true, false, cond, eqb, List, [], ◌∷◌, ◌++◌, length, get_or, take, map, refl, sym, ◌∙◌, subst, ap, arith}
 use Rattle.std.specs.Prelude.{not}
-use Rattle.std.proofs.Math.Seq.{take-suc}
-use Rattle.std.proofs.lemmas.List.{take_all}
+use Rattle.std.proofs.lemmas.List.{take_more}
 use Rattle.mv_ir.specs.declared.tree.Tree.{Tree}
 use Rattle.mv_ir.specs.declared.stm.Stm.{Stm}
 use Rattle.mv_ir.specs.declared.stm.Stm as st
@@ -241,19 +240,12 @@ same_body body = record {
   switches = refl;
 }
 
-next : (i : ℕ) → i + 1 ≡ suc i
-next i = omega arith
-
 -- a turn of the loop over a list
 pub step_marked : (temps : ℕ) (around : List Claim) (facts : List Fact) (code made : List Stm) (i : ℕ) (d x' : Stm) (reach after : Reach) → i < length code → AreMarked temps around facts (take i code) made reach →
     IsMarkedNext temps around reach (get_or code i d) x' after → AreMarked temps around facts (take (i + 1) code) (made ++ (x' ∷ [])) after
 step_marked temps around facts code made i d x' reach after lt h k =
-    subst (λ c. AreMarked temps around facts c (made ++ (x' ∷ [])) after) (sym (ap (λ n. take n code) (next i) ∙ take-suc code i d lt))
+    subst (λ c. AreMarked temps around facts c (made ++ (x' ∷ [])) after) (sym (take_more code i d lt))
     (next_marked temps around facts (take i code) made (get_or code i d) x' reach after h k)
-
-pub whole_marked : (temps : ℕ) (around : List Claim) (facts : List Fact) (code made : List Stm) (i : ℕ) (reach : Reach) → length code ≤ i → AreMarked temps around facts (take i code) made reach →
-    AreMarked temps around facts code made reach
-whole_marked temps around facts code made i reach le h = subst (λ c. AreMarked temps around facts c made reach) (take_all i code le) h
 
 pub of_statement : (temps : ℕ) (around : List Claim) (facts : List Fact) (x y made : Stm) (after : Reach) → y ≡ x → IsMarked temps around facts x made after → IsMarked temps around facts y made after
 of_statement temps around facts x y made after e h = subst (λ z. IsMarked temps around facts z made after) (sym e) h

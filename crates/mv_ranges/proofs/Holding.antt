@@ -1,9 +1,9 @@
 -- Facts that hold, one after the other.
-use Rattle.std.proofs.Common.{◌≡◌, ◌≢◌, ℕ, suc, ◌+◌, ◌<◌, ◌≤◌, List, [], ◌∷◌, ◌++◌, length, get_or, take, sym, subst, arith}
-use Rattle.std.specs.Prelude.{slice_index, IfOk, OnOk, Result, Ok, Err}
-use Rattle.std.proofs.Math.Seq.{take-suc, get_or-append_seam}
+use Rattle.std.proofs.Common.{◌≡◌, ◌≢◌, ℕ, ◌+◌, ◌<◌, ◌≤◌, List, [], ◌∷◌, ◌++◌, length, get_or, take, sym, subst, arith}
+use Rattle.std.specs.Prelude.{slice_index}
+use Rattle.std.proofs.Math.Seq.{get_or-append_seam}
 use Rattle.std.proofs.Math.ListN.{get_or-append}
-use Rattle.std.proofs.lemmas.List.{length-append, take_all}
+use Rattle.std.proofs.lemmas.List.{length-append, take_all, take_more}
 use Rattle.std.proofs.lemmas.List.Elements.{All-push}
 use Rattle.mv_ir.specs.Outcome.{State}
 use Rattle.mv_ranges.specs.declared.facts.Fact.{Fact}
@@ -18,17 +18,14 @@ left s xs ys h k d lt = subst (Holds s) (get_or-append xs ys d k lt) (h k d (ome
 last : (s : State) (xs : List Fact) (x : Fact) → AllHold s (xs ++ (x ∷ [])) → Holds s x
 last s xs x h = subst (Holds s) (get_or-append_seam xs x [] x) (h (length xs) x (omega (arith, length-append xs (x ∷ []))))
 
-next : (i : ℕ) → i + 1 ≡ suc i
-next i = omega arith
-
 -- facts up to a place, and the one at it
 pub up_to : (s : State) (facts : List Fact) (i : ℕ) (d : Fact) → i < length facts → AllHold s (take (i + 1) facts) → AllHold s (take i facts) × Holds s (get_or facts i d)
 up_to s facts i d lt h =
-    let h' = subst (AllHold s) (take-suc facts i d lt) (subst (λ n. AllHold s (take n facts)) (next i) h) in
+    let h' = subst (AllHold s) (take_more facts i d lt) h in
     (left s (take i facts) (get_or facts i d ∷ []) h', last s (take i facts) (get_or facts i d) h')
 
 pub through : (s : State) (facts : List Fact) (i : ℕ) (d : Fact) → i < length facts → AllHold s (take i facts) → Holds s (get_or facts i d) → AllHold s (take (i + 1) facts)
-through s facts i d lt h k = subst (λ n. AllHold s (take n facts)) (sym (next i)) (subst (AllHold s) (sym (take-suc facts i d lt)) (All-push (Holds s) (take i facts) (get_or facts i d) h k))
+through s facts i d lt h k = subst (AllHold s) (sym (take_more facts i d lt)) (All-push (Holds s) (take i facts) (get_or facts i d) h k)
 
 pub whole : (s : State) (facts : List Fact) (i : ℕ) → length facts ≤ i → AllHold s (take i facts) → AllHold s facts
 whole s facts i le h = subst (AllHold s) (take_all i facts le) h
@@ -66,12 +63,3 @@ kept_other s facts kept kept' f i d lt h was e k =
 -- a range doesn't go by arrays
 pub within_stays : (s s' : State) (f : Fact) (t : ℕ) (r : Range) → f ≡ Within t r → s'.temps ≡ s.temps → Holds s f → Holds s' f
 within_stays s s' f t r e same h = subst (Holds s') (sym e) (subst (λ ts. IsIn r (slice_index ts t)) (sym same) (subst (Holds s) e h))
-
--- of an answer, if there is one, what follows from what is said
-pub answered : {X E : Type 0} (r : Result X E) (P Q : X → Type 0) → IfOk r P → ((x : X) → P x → Q x) → IfOk r Q
-answered (Ok x) P Q h k = k x h
-answered (Err e) P Q h k = tt
-
-pub passed : {X E : Type 0} (r : Result X E) (P Q : Type 0) → OnOk r P → (P → Q) → OnOk r Q
-passed (Ok x) P Q h k = k h
-passed (Err e) P Q h k = tt

@@ -18,9 +18,10 @@ use Rattle.mv_ir.specs.declared.stm.Stm.TheViews.{roll-Stm}
 use Rattle.mv_ir.specs.declared.stm.Stm.TheFolds.{fold-roll-Stm, map-Stm}
 use Rattle.mv_ir.specs.World.{World, Setting, Frame}
 use Rattle.mv_ir.specs.Trees.{value, divide}
-use Rattle.mv_ir.specs.Outcome.{State, End, Returned, Trapped, More, Stuck, Outcome, Next, Ends, Run, Bound, Calls, Meaning}
-use Rattle.mv_ir.specs.Meaning.{elements, with_temp, with_elements, with_world, outside, traps, put, call_end, Goal, Nowhere, Null, At, Inside, within, call_to, goal, meaning}
+use Rattle.mv_ir.specs.Outcome.{State, End, Returned, Trapped, More, Stuck, Outcome, Next, Ends, Run, Bound, Calls}
+use Rattle.mv_ir.specs.Meaning.{elements, with_temp, with_elements, with_world, outside, traps, put, call_end, Goal, Nowhere, Null, At, Inside, within, call_to, goal, meaning, unpromised}
 use Rattle.mv_ir.proofs.Keeping.{layer_means, meaning_roll, run_same}
+use Rattle.mv_ir.proofs.Arrays.{plain_elements}
 use Rattle.mv_ranges.specs.declared.facts.Fact.{Fact}
 use Rattle.mv_ranges.specs.declared.range.Range.{Range}
 use Rattle.mv_ranges.specs.declared.around.Claim.{Claim}
@@ -28,14 +29,11 @@ use Rattle.mv_ranges.specs.declared.walk.Reach.{Reach}
 use Rattle.mv_ranges.specs.declared.walk.Reach.TheVariants.{Never, Knowing}
 use Rattle.mv_ranges.specs.Ranges.{IsWithin}
 use Rattle.mv_ranges.specs.Facts.{AllHold, AreKnown}
-use Rattle.mv_ranges.specs.Plain.{plain, plain_layer, plain_stm}
+use Rattle.mv_ranges.specs.Plain.{plain_layer, plain_stm}
 use Rattle.mv_ranges.specs.Following.{claim_at, OnReach, OnExit, OnStart, GoesOn, IsMarked, IsKept}
 use Rattle.mv_ranges.proofs.Steps.{long_with}
 
 -- ---- what statements mean, and their plain forms
-
-abbrev pub Layer : Setting → Frame → Stm-F Stm → Meaning
-Layer = layer_means
 
 pub means_as : (setting : Setting) (frame : Frame) (x : Stm-F Stm) (y : Stm) → roll-Stm x ≡ y → meaning setting frame y ≡ layer_means setting frame x
 means_as setting frame x y e = subst (λ z. meaning setting frame z ≡ layer_means setting frame x) e (meaning_roll setting frame x)
@@ -47,22 +45,16 @@ plain_roll x = fold-roll-Stm Stm plain_layer x
 pub plain_as : (x : Stm-F Stm) (y : Stm) → roll-Stm x ≡ y → plain_stm y ≡ plain_layer (map-Stm Stm Stm plain_stm x)
 plain_as x y e = subst (λ z. plain_stm z ≡ plain_layer (map-Stm Stm Stm plain_stm x)) e (plain_roll x)
 
-plain_elements : (a : Array) (s : State) → elements (plain a) s ≡ elements a s
-plain_elements (array.Global g) s = refl
-plain_elements (array.Local l) s = refl
-plain_elements (array.SureGlobal g n) s = refl
-plain_elements (array.SureLocal l n) s = refl
-
-plain_with : (a : Array) (s : State) (xs : List ℕ) → with_elements (plain a) s xs ≡ with_elements a s xs
+plain_with : (a : Array) (s : State) (xs : List ℕ) → with_elements (unpromised a) s xs ≡ with_elements a s xs
 plain_with (array.Global g) s xs = refl
 plain_with (array.Local l) s xs = refl
 plain_with (array.SureGlobal g n) s xs = refl
 plain_with (array.SureLocal l n) s xs = refl
 
-same_elements : (a a' : Array) → plain a' ≡ plain a → (s : State) → elements a' s ≡ elements a s
+same_elements : (a a' : Array) → unpromised a' ≡ unpromised a → (s : State) → elements a' s ≡ elements a s
 same_elements a a' e s = sym (plain_elements a' s) ∙ ap (λ z. elements z s) e ∙ plain_elements a s
 
-same_with : (a a' : Array) → plain a' ≡ plain a → (s : State) (xs : List ℕ) → with_elements a' s xs ≡ with_elements a s xs
+same_with : (a a' : Array) → unpromised a' ≡ unpromised a → (s : State) (xs : List ℕ) → with_elements a' s xs ≡ with_elements a s xs
 same_with a a' e s xs = sym (plain_with a' s xs) ∙ ap (λ z. with_elements z s xs) e ∙ plain_with a s xs
 
 -- an access of one array and of another, which end in the same way outside, unless the index is below the length
@@ -139,7 +131,7 @@ module _ (temps : ℕ) where
     IsAccessed a i after =
         (numbers : List ℕ) (bound : List (ℕ × ℕ)) (s : State) → AllHold s facts → value numbers bound i s.temps s.world.globals < length (elements a s) → AllHold s after
 
-    pub check_marked : (a a' : Array) (i : Tree) (after : List Fact) → plain a' ≡ plain a → IsKept facts a i a' → IsAccessed a i after →
+    pub check_marked : (a a' : Array) (i : Tree) (after : List Fact) → unpromised a' ≡ unpromised a → IsKept facts a i a' → IsAccessed a i after →
         IsMarked temps around facts (st.Check a i) (st.Check a' i) (Knowing after)
     check_marked a a' i after p kept h = changed (stm.Check a i) (stm.Check a' i) (st.Check a i) (st.Check a' i) (Knowing after) (rolls-Check a i) (rolls-Check a' i)
         (ap (λ z. roll-Stm (stm.Check z i)) p)
@@ -148,7 +140,7 @@ module _ (temps : ℕ) where
         ∙ chosen_same _ _ (Next s) (Next s) _ _ refl (kept setting.numbers frame.bound s s.world known.true)) refl)
         (λ setting frame bound s known. chosen_goes around (Knowing after) _ _ s _ (λ lt. record { enough = known.enough; true = h setting.numbers frame.bound s known.true lt }))
 
-    pub read_marked : (t : ℕ) (a a' : Array) (i : Tree) (between after : List Fact) → plain a' ≡ plain a → IsKept facts a i a' → IsAccessed a i between →
+    pub read_marked : (t : ℕ) (a a' : Array) (i : Tree) (between after : List Fact) → unpromised a' ≡ unpromised a → IsKept facts a i a' → IsAccessed a i between →
         ((s : State) (v : ℕ) → AreKnown temps between s → IsWithin None v → AllHold (with_temp s t v) after) → IsMarked temps around facts (st.Read t a i) (st.Read t a' i) (Knowing after)
     read_marked t a a' i between after p kept h k = changed (stm.Read t a i) (stm.Read t a' i) (st.Read t a i) (st.Read t a' i) (Knowing after) (rolls-Read t a i) (rolls-Read t a' i)
         (ap (λ z. roll-Stm (stm.Read t z i)) p)
@@ -163,7 +155,7 @@ module _ (temps : ℕ) where
         let b : AreKnown temps between s = record { enough = known.enough; true = h setting.numbers frame.bound s known.true lt } in
         known_temp between after s t _ b (k s _ b tt)))
 
-    pub write_marked : (a a' : Array) (i v : Tree) (after : List Fact) → plain a' ≡ plain a → IsKept facts a i a' → IsAccessed a i after →
+    pub write_marked : (a a' : Array) (i v : Tree) (after : List Fact) → unpromised a' ≡ unpromised a → IsKept facts a i a' → IsAccessed a i after →
         IsMarked temps around facts (st.Write a i v) (st.Write a' i v) (Knowing after)
     write_marked a a' i v after p kept h = changed (stm.Write a i v) (stm.Write a' i v) (st.Write a i v) (st.Write a' i v) (Knowing after) (rolls-Write a i v) (rolls-Write a' i v)
         (ap (λ z. roll-Stm (stm.Write z i v)) p)

@@ -1,5 +1,5 @@
 -- What doesn't look at whether an index is promised to be below a number is the same of code with promises.
-use Rattle.std.proofs.Common.{◌≡◌, ℕ, Bool, false, ltb, ◌||◌, List, [], ◌∷◌, ◌++◌, map, refl, sym, ◌∙◌, ap, subst, Contains, arith}
+use Rattle.std.proofs.Common.{◌≡◌, ℕ, Bool, false, List, [], ◌∷◌, ◌++◌, map, refl, sym, ◌∙◌, ap, subst, Contains, arith}
 use Rattle.mv_ir.specs.declared.tree.Tree.{Tree}
 use Rattle.mv_ir.specs.declared.stm.Array.{Array}
 use Rattle.mv_ir.specs.declared.stm.Array.TheVariants as array
@@ -12,26 +12,25 @@ use Rattle.mv_ir.specs.declared.body.Body.{Body}
 use Rattle.mv_ir.specs.declared.body.Room.{Room}
 use Rattle.mv_ir.specs.Measures.{joined, total, layer_trees, stm_trees, trees, tree_reads, scalars_read, array_read, layer_arrays, stm_arrays, arrays_read, layer_size, stm_size, statements, layer_calls, stm_calls, calls, tree_nodes, deepest_of, deepest}
 use Rattle.mv_ir.specs.Trees.{nodes_of_all}
-use Rattle.mv_ir.specs.Live.{Flow, layer_flow, flow, nowhere, live_in_order, marks_in_order, live_at_start, all_marks, mark_at, IsWhole, HasTemps}
+use Rattle.mv_ir.specs.Live.{Flow, layer_flow, flow, IsWhole, HasTemps}
 use Rattle.mv_ir.specs.WellFormed.{all_true, all_around, layer_targets, stm_targets, layer_named, stm_named, named, has_room, is_there, layer_arguments, stm_arguments, IsWellFormed}
+use Rattle.mv_ir.specs.Meaning.{unpromised}
 use Rattle.mv_ir.proofs.Induction.{Each, StmChildren, stm_ind, stms_ind}
 use Rattle.mv_ir.proofs.Rolls.{trees_roll, arrays_roll, size_roll, calls_roll, flow_roll, targets_roll, named_roll, arguments_roll}
 use Rattle.mv_ir.proofs.Keeping.{map_append}
+use Rattle.mv_ir.proofs.Living.{whole_kept, temps_kept}
 use Rattle.mv_fold.specs.Folded.{IsNoGreater}
-use Rattle.mv_ranges.specs.Plain.{plain, plain_layer, plain_stm, plain_code}
+use Rattle.mv_ranges.specs.Plain.{plain_layer, plain_stm, plain_code}
 use Rattle.mv_ranges.specs.Marked.{IsMarkedBody}
-use Rattle.mv_ranges.proofs.Marks.{plain_as}
-
-plain_roll : (x : Stm-F Stm) → plain_stm (roll-Stm x) ≡ plain_layer (map-Stm Stm Stm plain_stm x)
-plain_roll x = plain_as x (roll-Stm x) refl
+use Rattle.mv_ranges.proofs.Marks.{plain_roll}
 
 -- ---- whatever is found of a statement by what is found of its parts, and is the same of an array and of the plain one
 
 pub record Blind (X : Type 0) (layer : Stm-F X → X) (m : Stm → X) : Type 0 where
   pub roll : (x : Stm-F Stm) → m (roll-Stm x) ≡ layer (map-Stm Stm X m x)
-  pub check : (a : Array) (i : Tree) → layer (stm.Check (plain a) i) ≡ layer (stm.Check a i)
-  pub read : (t : ℕ) (a : Array) (i : Tree) → layer (stm.Read t (plain a) i) ≡ layer (stm.Read t a i)
-  pub write : (a : Array) (i v : Tree) → layer (stm.Write (plain a) i v) ≡ layer (stm.Write a i v)
+  pub check : (a : Array) (i : Tree) → layer (stm.Check (unpromised a) i) ≡ layer (stm.Check a i)
+  pub read : (t : ℕ) (a : Array) (i : Tree) → layer (stm.Read t (unpromised a) i) ≡ layer (stm.Read t a i)
+  pub write : (a : Array) (i v : Tree) → layer (stm.Write (unpromised a) i v) ≡ layer (stm.Write a i v)
 
 module _ (X : Type 0) (layer : Stm-F X → X) (m : Stm → X) (of : Blind X layer m) where
   abbrev One : Stm → Type 0
@@ -45,9 +44,9 @@ module _ (X : Type 0) (layer : Stm-F X → X) (m : Stm → X) (of : Blind X laye
   layer_same (stm.Set t v) h = of.roll (stm.Set t v)
   layer_same (stm.SetGlobal g v) h = of.roll (stm.SetGlobal g v)
   layer_same (stm.Divide t o a b) h = of.roll (stm.Divide t o a b)
-  layer_same (stm.Check a i) h = of.roll (stm.Check (plain a) i) ∙ of.check a i
-  layer_same (stm.Read t a i) h = of.roll (stm.Read t (plain a) i) ∙ of.read t a i
-  layer_same (stm.Write a i v) h = of.roll (stm.Write (plain a) i v) ∙ of.write a i v
+  layer_same (stm.Check a i) h = of.roll (stm.Check (unpromised a) i) ∙ of.check a i
+  layer_same (stm.Read t a i) h = of.roll (stm.Read t (unpromised a) i) ∙ of.read t a i
+  layer_same (stm.Write a i v) h = of.roll (stm.Write (unpromised a) i v) ∙ of.write a i v
   layer_same (stm.Zero l) h = of.roll (stm.Zero l)
   layer_same (stm.If t a b) h =
       of.roll (stm.If t (plain_code a) (plain_code b)) ∙ ap (λ l. layer (stm.If t l (map m (plain_code b)))) (ones a h.0) ∙ ap (λ l. layer (stm.If t (map m a) l)) (ones b h.1)
@@ -77,7 +76,7 @@ size_blind = record { roll = size_roll; check = λ a i. refl; read = λ t a i. r
 calls_blind : Blind ℕ layer_calls stm_calls
 calls_blind = record { roll = calls_roll; check = λ a i. refl; read = λ t a i. refl; write = λ a i v. refl }
 
-plain_read : (a : Array) → array_read (plain a) ≡ array_read a
+plain_read : (a : Array) → array_read (unpromised a) ≡ array_read a
 plain_read (array.Global g) = refl
 plain_read (array.Local l) = refl
 plain_read (array.SureGlobal g n) = refl
@@ -120,50 +119,50 @@ module _ (code result : List Stm) (e : plain_code result ≡ plain_code code) wh
 
 -- ---- arrays that are named
 
-plain_there : (rooms : List Room) (sizes : List ℕ) (a : Array) → is_there rooms sizes (plain a) ≡ is_there rooms sizes a
+plain_there : (rooms : List Room) (sizes : List ℕ) (a : Array) → is_there rooms sizes (unpromised a) ≡ is_there rooms sizes a
 plain_there rooms sizes (array.Global g) = refl
 plain_there rooms sizes (array.Local l) = refl
 plain_there rooms sizes (array.SureGlobal g n) = refl
 plain_there rooms sizes (array.SureLocal l n) = refl
 
-all_there : (rooms : List Room) (sizes : List ℕ) (xs : List Array) → map (is_there rooms sizes) (map plain xs) ≡ map (is_there rooms sizes) xs
+all_there : (rooms : List Room) (sizes : List ℕ) (xs : List Array) → map (is_there rooms sizes) (map unpromised xs) ≡ map (is_there rooms sizes) xs
 all_there rooms sizes [] = refl
-all_there rooms sizes (a ∷ xs) = ap (λ b. b ∷ map (is_there rooms sizes) (map plain xs)) (plain_there rooms sizes a) ∙ ap (λ l. is_there rooms sizes a ∷ l) (all_there rooms sizes xs)
+all_there rooms sizes (a ∷ xs) = ap (λ b. b ∷ map (is_there rooms sizes) (map unpromised xs)) (plain_there rooms sizes a) ∙ ap (λ l. is_there rooms sizes a ∷ l) (all_there rooms sizes xs)
 
 abbrev plain_named : List Stm → List Array
-plain_named code = map plain (named code)
+plain_named code = map unpromised (named code)
 
 abbrev NamedAlike : Stm → Type 0
-NamedAlike s = map plain (stm_named (plain_stm s)) ≡ map plain (stm_named s)
+NamedAlike s = map unpromised (stm_named (plain_stm s)) ≡ map unpromised (stm_named s)
 
-named_more : (xs ys : List Array) → map plain (xs ++ ys) ≡ map plain xs ++ map plain ys
-named_more xs ys = map_append plain xs ys
+named_more : (xs ys : List Array) → map unpromised (xs ++ ys) ≡ map unpromised xs ++ map unpromised ys
+named_more xs ys = map_append unpromised xs ys
 
 alike_all : (code : List Stm) → Each NamedAlike code → plain_named (plain_code code) ≡ plain_named code
 alike_all [] h = refl
 alike_all (s ∷ code) h =
     named_more (stm_named (plain_stm s)) (named (plain_code code)) ∙ ap (λ l. l ++ plain_named (plain_code code)) h.0
-    ∙ ap (λ l. map plain (stm_named s) ++ l) (alike_all code h.1) ∙ sym (named_more (stm_named s) (named code))
+    ∙ ap (λ l. map unpromised (stm_named s) ++ l) (alike_all code h.1) ∙ sym (named_more (stm_named s) (named code))
 
-plain_twice : (a : Array) → plain (plain a) ≡ plain a
+plain_twice : (a : Array) → unpromised (unpromised a) ≡ unpromised a
 plain_twice (array.Global g) = refl
 plain_twice (array.Local l) = refl
 plain_twice (array.SureGlobal g n) = refl
 plain_twice (array.SureLocal l n) = refl
 
 abbrev layer_plain_named : Stm-F Stm → List Array
-layer_plain_named x = map plain (layer_named (map-Stm Stm (List Array) stm_named x))
+layer_plain_named x = map unpromised (layer_named (map-Stm Stm (List Array) stm_named x))
 
-one_named : (x : Stm-F Stm) → map plain (stm_named (roll-Stm x)) ≡ layer_plain_named x
-one_named x = ap (map plain) (named_roll x)
+one_named : (x : Stm-F Stm) → map unpromised (stm_named (roll-Stm x)) ≡ layer_plain_named x
+one_named x = ap (map unpromised) (named_roll x)
 
-layer_alike : (x : Stm-F Stm) → StmChildren NamedAlike x → map plain (stm_named (plain_layer (map-Stm Stm Stm plain_stm x))) ≡ layer_plain_named x
+layer_alike : (x : Stm-F Stm) → StmChildren NamedAlike x → map unpromised (stm_named (plain_layer (map-Stm Stm Stm plain_stm x))) ≡ layer_plain_named x
 layer_alike (stm.Set t v) h = one_named (stm.Set t v)
 layer_alike (stm.SetGlobal g v) h = one_named (stm.SetGlobal g v)
 layer_alike (stm.Divide t o a b) h = one_named (stm.Divide t o a b)
-layer_alike (stm.Check a i) h = one_named (stm.Check (plain a) i) ∙ ap (λ z. z ∷ []) (plain_twice a)
-layer_alike (stm.Read t a i) h = one_named (stm.Read t (plain a) i) ∙ ap (λ z. z ∷ []) (plain_twice a)
-layer_alike (stm.Write a i v) h = one_named (stm.Write (plain a) i v) ∙ ap (λ z. z ∷ []) (plain_twice a)
+layer_alike (stm.Check a i) h = one_named (stm.Check (unpromised a) i) ∙ ap (λ z. z ∷ []) (plain_twice a)
+layer_alike (stm.Read t a i) h = one_named (stm.Read t (unpromised a) i) ∙ ap (λ z. z ∷ []) (plain_twice a)
+layer_alike (stm.Write a i v) h = one_named (stm.Write (unpromised a) i v) ∙ ap (λ z. z ∷ []) (plain_twice a)
 layer_alike (stm.Zero l) h = one_named (stm.Zero l)
 layer_alike (stm.If t a b) h =
     one_named (stm.If t (plain_code a) (plain_code b)) ∙ named_more (named (plain_code a)) (named (plain_code b)) ∙ ap (λ l. l ++ plain_named (plain_code b)) (alike_all a h.0)
@@ -178,7 +177,7 @@ layer_alike (stm.Return v) h = one_named (stm.Return v)
 
 named_alike : (code : List Stm) → plain_named (plain_code code) ≡ plain_named code
 named_alike code =
-    alike_all code (stms_ind NamedAlike (stm_ind NamedAlike (λ x h. ap (λ s. map plain (stm_named s)) (plain_roll x) ∙ layer_alike x h ∙ sym (one_named x))) code)
+    alike_all code (stms_ind NamedAlike (stm_ind NamedAlike (λ x h. ap (λ s. map unpromised (stm_named s)) (plain_roll x) ∙ layer_alike x h ∙ sym (one_named x))) code)
 
 same_there : (rooms : List Room) (sizes : List ℕ) (code result : List Stm) → plain_code result ≡ plain_code code →
     map (is_there rooms sizes) (named result) ≡ map (is_there rooms sizes) (named code)
@@ -201,19 +200,11 @@ module _ (body result : Body) (h : IsMarkedBody body result) where
   same_flows : (t : ℕ) → map (flow t) result.code ≡ map (flow t) body.code
   same_flows t = same_of_all Flow (layer_flow t) (flow t) (flow_blind t) body.code result.code h.code
 
-  same_start : (t : ℕ) → live_at_start t result.code ≡ live_at_start t body.code
-  same_start t = ap (λ fs. live_in_order fs nowhere) (same_flows t)
-
-  same_marks : (t : ℕ) → all_marks result t ≡ all_marks body t
-  same_marks t =
-      ap (λ n. (live_at_start t result.code || ltb t n) ∷ marks_in_order (map (flow t) result.code) nowhere) h.params
-      ∙ ap (λ fs. (live_in_order fs nowhere || ltb t body.params) ∷ marks_in_order fs nowhere) (same_flows t)
-
   pub marked_whole : IsWhole body → IsWhole result
-  marked_whole whole t live = let below = whole t (sym (same_start t) ∙ live) in let params = h.params in omega (arith, below, params)
+  marked_whole = whole_kept body result same_flows h.params h.temps
 
   pub marked_has_temps : HasTemps body → HasTemps result
-  marked_has_temps has i t marked = let below = has i t (sym (ap (λ xs. mark_at xs i) (same_marks t)) ∙ marked) in let temps = h.temps in omega (arith, below, temps)
+  marked_has_temps = temps_kept body result same_flows h.params h.temps
 
   pub marked_well_formed : IsWellFormed body → IsWellFormed result
   marked_well_formed formed = record {

@@ -1,17 +1,12 @@
 -- What is known behind statements.
-use Rattle.std.proofs.Common.{◌≡◌, ℕ, zero, suc, ◌<◌, List, [], ◌∷◌, length, refl, sym, ◌∙◌, subst, ap, arith}
+use Rattle.std.proofs.Common.{◌≡◌, ℕ, zero, suc, ◌<◌, List, [], ◌∷◌, length, refl, sym, subst, ap, arith}
 use Rattle.std.specs.Prelude.{slice_index, slice_set, slice_index_or}
 use Rattle.std.proofs.lemmas.List.{get_or-set_other}
-use Rattle.std.proofs.lemmas.Grind.{get_or-set_at}
 use Rattle.mv_ir.specs.declared.stm.Array.{Array}
 use Rattle.mv_ir.specs.declared.stm.Array.TheVariants as array
 use Rattle.mv_ir.specs.Outcome.{State}
 use Rattle.mv_ir.specs.Meaning.{elements, with_temp, with_elements}
-use Rattle.mv_ir.specs.declared.tree.Tree as tr
-use Rattle.mv_ir.specs.declared.tree.Tree.TheOpen as tree
-use Rattle.mv_ir.specs.declared.tree.Tree.TheVariants.{rolls-Temp}
-use Rattle.mv_ir.specs.Trees.{value}
-use Rattle.mv_ir.proofs.Rolls.{value_roll}
+use Rattle.mv_ir.proofs.Arrays.{written_value, temps_elements}
 use Rattle.mv_ranges.specs.declared.facts.Fact.{Fact}
 use Rattle.mv_ranges.specs.declared.facts.Fact.TheVariants.{Within, Below}
 use Rattle.mv_ranges.specs.Ranges.{IsIn}
@@ -27,9 +22,6 @@ as_long s t v (array.Global g) = refl
 as_long s t v (array.Local l) = refl
 as_long s t v (array.SureGlobal g n) = refl
 as_long s t v (array.SureLocal l n) = refl
-
-pub written_value : (s : State) (t v : ℕ) → t < length s.temps → slice_index (with_temp s t v).temps t ≡ v
-written_value s t v lt = get_or-set_at s.temps t t v 0 refl lt
 
 -- ---- elements are changed, and none is more or less
 
@@ -65,20 +57,11 @@ long_holds s s' (Below t a) e long h = omega (arith, ap (λ ts. slice_index ts t
 pub all_long : (s s' : State) (facts : List Fact) → s'.temps ≡ s.temps → AreAsLong s s' → AllHold s facts → AllHold s' facts
 all_long s s' facts e long h k d lt = long_holds s s' _ e long (h k d lt)
 
-same_temps : (a : Array) (s : State) (xs : List ℕ) → (with_elements a s xs).temps ≡ s.temps
-same_temps (array.Global g) s xs = refl
-same_temps (array.Local l) s xs = refl
-same_temps (array.SureGlobal g n) s xs = refl
-same_temps (array.SureLocal l n) s xs = refl
-
 pub long_with : (temps : ℕ) (facts : List Fact) (a : Array) (s : State) (xs : List ℕ) → AreKnown temps facts s → length xs ≡ length (elements a s) → AreKnown temps facts (with_elements a s xs)
 long_with temps facts a s xs known e = record {
-  enough = (let k = known.enough in omega (arith, k, ap length (same_temps a s xs)));
-  true = all_long s (with_elements a s xs) facts (same_temps a s xs) (as_long_all a s xs e) known.true;
+  enough = (let k = known.enough in omega (arith, k, ap length (temps_elements a s xs)));
+  true = all_long s (with_elements a s xs) facts (temps_elements a s xs) (as_long_all a s xs e) known.true;
 }
-
-pub value_of_temp : (numbers : List ℕ) (bound : List (ℕ × ℕ)) (t : ℕ) (temps : List ℕ) (globals : List (List ℕ)) → value numbers bound (tr.Temp t) temps globals ≡ slice_index temps t
-value_of_temp numbers bound t temps globals = ap (λ x. value numbers bound x temps globals) (sym (rolls-Temp t)) ∙ ap (λ v. v temps globals) (value_roll numbers bound (tree.Temp t))
 
 -- what holds what another temporary holds is below the lengths that the other is below
 pub below_copied : (s : State) (t u : ℕ) (a : Array) → t < length s.temps → slice_index s.temps u < length (elements a s) → Holds (with_temp s t (slice_index s.temps u)) (Below t a)

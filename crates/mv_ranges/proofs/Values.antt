@@ -15,19 +15,15 @@ use Rattle.mv_ir.specs.declared.tree.Tree.TheFolds.{map-Tree}
 use Rattle.mv_ir.specs.Trees.{unary, binary, Value, tree_value, value}
 use Rattle.mv_ir.specs.Outcome.{State}
 use Rattle.mv_ir.proofs.Rolls.{value_roll}
+use Rattle.mv_ir.proofs.Common.{truth_small, signed_low}
 use Rattle.mv_ranges.specs.declared.facts.Fact.{Fact}
 use Rattle.mv_ranges.specs.Facts.{AllHold}
-use Rattle.mv_ranges.proofs.Arithmetic.{signed_plain}
 
 -- ---- operators
 
-as_word_le : (b : Bool) → as_word b ≤ 1
-as_word_le true = omega arith
-as_word_le false = omega arith
-
 pub not_le : (x : ℕ) → unary 2 x ≤ 1
 unfolding unary
-not_le x = as_word_le (eqb x 0)
+not_le x = truth_small (eqb x 0)
 
 true_word : (b : Bool) → not (eqb (as_word b) 0) ≡ b
 true_word true = refl
@@ -44,10 +40,10 @@ and_is x y = refl
 -- the operators from number 9 on are tests
 test_le : (k x y : ℕ) → binary (suc (suc (suc (suc (suc (suc (suc (suc (suc k))))))))) x y ≤ 1
 unfolding binary
-test_le zero x y = as_word_le (word.lt_s x y)
-test_le (suc zero) x y = as_word_le (word.lt_u x y)
-test_le (suc (suc zero)) x y = as_word_le (eqb x y)
-test_le (suc (suc (suc zero))) x y = as_word_le (not (eqb x y))
+test_le zero x y = truth_small (word.lt_s x y)
+test_le (suc zero) x y = truth_small (word.lt_u x y)
+test_le (suc (suc zero)) x y = truth_small (eqb x y)
+test_le (suc (suc (suc zero))) x y = truth_small (not (eqb x y))
 test_le (suc (suc (suc (suc k)))) x y = omega arith
 
 pub tested_le : (o x y : ℕ) → 9 ≤ o → binary o x y ≤ 1
@@ -97,7 +93,7 @@ less_unsigned_not x y e = let f = sym (true_word (word.lt_u x y)) ∙ e in grind
 -- signed numbers below 2 ^ 31 have the order of numbers without signs
 less_plain : (x y : ℕ) → x < 2 ^ 31 → y < 2 ^ 31 → word.lt_s x y ≡ word.lt_u x y
 unfolding word.lt_s word.lt_u
-less_plain x y p q = rw (signed_plain x p, signed_plain y q) refl
+less_plain x y p q = rw (signed_low x p, signed_low y q) refl
 
 signed_as_unsigned : (x y : ℕ) → x < 2 ^ 31 → y < 2 ^ 31 → binary 9 x y ≡ binary 10 x y
 unfolding binary

@@ -1,23 +1,16 @@
 -- Code whose arrays are plain: no index is promised to be below a number.
 use Rattle.std.specs.Prelude.{List, map}
-use Rattle.mv_ir.specs.declared.stm.Array.{Array}
-use Rattle.mv_ir.specs.declared.stm.Array.TheVariants as array
 use Rattle.mv_ir.specs.declared.stm.Stm.{Stm}
 use Rattle.mv_ir.specs.declared.stm.Stm.TheOpen.{Stm-F}
 use Rattle.mv_ir.specs.declared.stm.Stm.TheOpen as stm
 use Rattle.mv_ir.specs.declared.stm.Stm.TheViews.{roll-Stm}
 use Rattle.mv_ir.specs.declared.stm.Stm.TheFolds.{fold-Stm}
-
-abbrev pub plain : Array → Array
-plain (array.Global g) = array.Global g
-plain (array.Local l) = array.Local l
-plain (array.SureGlobal g n) = array.Global g
-plain (array.SureLocal l n) = array.Local l
+use Rattle.mv_ir.specs.Meaning.{unpromised}
 
 abbrev pub plain_layer : Stm-F Stm → Stm
-plain_layer (stm.Check a i) = roll-Stm (stm.Check (plain a) i)
-plain_layer (stm.Read t a i) = roll-Stm (stm.Read t (plain a) i)
-plain_layer (stm.Write a i v) = roll-Stm (stm.Write (plain a) i v)
+plain_layer (stm.Check a i) = roll-Stm (stm.Check (unpromised a) i)
+plain_layer (stm.Read t a i) = roll-Stm (stm.Read t (unpromised a) i)
+plain_layer (stm.Write a i v) = roll-Stm (stm.Write (unpromised a) i v)
 plain_layer x = roll-Stm x
 
 -- a statement with plain arrays in place of its own

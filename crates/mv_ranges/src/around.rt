@@ -31,6 +31,7 @@ impl Claim {
         }
     }
 
+    /// The same claim once more.
     pub(crate) fn copied(&self, alloc: Global) -> Result<Claim, AllocError>
         ensures { IfOk result (λ copy. copy ≡ self.now) }
     {

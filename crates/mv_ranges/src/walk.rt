@@ -3,7 +3,7 @@ ghost use Rattle.std.specs.Prelude.{ℕ, ◌≡◌, ◌<◌, ◌⊎◌, List, []
 ghost use Rattle.mv_ir.specs.Outcome.{State};
 ghost use Rattle.mv_ir.specs.World.{World};
 ghost use Rattle.mv_ir.specs.Trees.{value};
-ghost use Rattle.mv_ir.specs.Meaning.{elements, outside};
+ghost use Rattle.mv_ir.specs.Meaning.{elements, outside, unpromised};
 ghost use Rattle.mv_ir.specs.Meaning.{put, with_temp, with_world};
 ghost use Rattle.mv_ir.specs.declared.stm.Stm.{Stm};
 ghost use Rattle.mv_ranges.specs.declared.facts.Fact.{Fact};
@@ -11,7 +11,6 @@ ghost use Rattle.mv_ranges.specs.declared.around.Claim.{Claim};
 ghost use Rattle.mv_ranges.specs.declared.walk.Reach.TheVariants.{Knowing};
 ghost use Rattle.mv_ranges.specs.Ranges.{IsWithin};
 ghost use Rattle.mv_ranges.specs.Facts.{AllHold, AreKnown};
-ghost use Rattle.mv_ranges.specs.Plain.{plain};
 ghost use Rattle.mv_ranges.specs.Following.{OnReach, IsKept, IsMarked, AreMarked, IsMarkedNext, AreSides, enclosing};
 
 use crate::around::{Around, Claim};
@@ -93,7 +92,7 @@ fn words_of(rooms: &[Room], global: u32) -> u32 {
 
 // An array with the promise that an index is below a number.
 fn sure(array: Array, below: u32) -> Array
-    ensures same { plain result ≡ plain array }
+    ensures same { unpromised result ≡ unpromised array }
     ensures outside { (k : ℕ) (w : World) → k < below → outside result k w ≡ outside array k w }
 {
     match array {
@@ -105,7 +104,7 @@ fn sure(array: Array, below: u32) -> Array
 
 // The array of an access, with a promise where its index is known to be below the length.
 fn promised(ground: Ground<'_>, facts: &[Fact], array: Array, index: &Tree) -> Array
-    ensures same { plain result ≡ plain array }
+    ensures same { unpromised result ≡ unpromised array }
     ensures kept { IsKept facts.now array index.now result }
 {
     match index {

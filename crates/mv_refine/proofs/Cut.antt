@@ -15,7 +15,7 @@ use Rattle.mv_refine_machine.proofs.Inputs.{first_input}
 use Rattle.mv_refine_machine.specs.Runs.Behaves.{BehavesAlways}
 use Rattle.mv_machine.specs.Acts.{PollActs, polls_of}
 use Rattle.mv_machine.specs.Runs.{State, Going, Reads, Writes, bytes_to_come, first, runs_from, runs}
-use Rattle.mv_machine.specs.Snapshots.{Asks}
+use Rattle.mv_machine.specs.Snapshots.{CallsFor}
 use Rattle.mv_meaning.specs.Meaning.{mean}
 use Rattle.mv_meaning.proofs.Bounds.{bound_extends}
 use Rattle.mv_meaning.proofs.Growing.{Begins-trans}
@@ -47,7 +47,7 @@ module _ (p : Program) (image : Fields) (behaves : BehavesAlways p image) (actio
   abbrev on : (byte : ℕ) → State
   on byte = runs image (bytes_to_come (taken ++ byte ∷ [])) (polls_of actions) picks (count + 1)
 
-  module _ (left : before.input ≡ bytes_to_come later) (going : before.stop ≡ Going) (asks : Asks before (slice_index picks count) Reads) where
+  module _ (left : before.input ≡ bytes_to_come later) (going : before.stop ≡ Going) (asks : CallsFor before (slice_index picks count) Reads) where
     empty : (byte : ℕ) → (on byte).input ≡ []
     empty byte =
         let whole : (first image (bytes_to_come bytes) (polls_of actions)).input ≡ bytes_to_come taken ++ bytes_to_come later =
@@ -70,7 +70,7 @@ module _ (p : Program) (image : Fields) (behaves : BehavesAlways p image) (actio
         let all = length-append taken (byte ∷ []) in
         omega (arith, few, more, none, all)
 
-  module _ (going : before.stop ≡ Going) (asks : Asks before (slice_index picks count) Writes) where
+  module _ (going : before.stop ≡ Going) (asks : CallsFor before (slice_index picks count) Writes) where
     pub outputs_more : WritesMore p actions bytes steps before.output
     outputs_more =
         let next = runs image (bytes_to_come bytes) (polls_of actions) picks (count + 1) in

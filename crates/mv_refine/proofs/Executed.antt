@@ -23,7 +23,7 @@ use Rattle.mv_machine.specs.Acts.{polls_of}
 use Rattle.mv_machine.specs.Runs.{State, Stop, Going, Exit, Trap, Reads, Writes, bytes_to_come, runs}
 use Rattle.mv_io.specs.Outside.{AreToldBytes}
 use Rattle.mv_io.proofs.Common.{are_bytes, may_come}
-use Rattle.mv_machine.specs.Snapshots.{Snapshot, Asks, WantsMemory, kept}
+use Rattle.mv_machine.specs.Snapshots.{Snapshot, CallsFor, WantsMemory, kept}
 use Rattle.mv_meaning.specs.declared.meant.End.{End}
 use Rattle.mv_meaning.specs.declared.meant.End.TheVariants as source
 use Rattle.mv_meaning.specs.declared.meant.Meant.{Meant}
@@ -34,9 +34,9 @@ use Rattle.mv_refine.specs.Environment.{Environment, Wrote}
 use Rattle.mv_build.specs.declared.built.Built.{Built}
 use Rattle.mv_refine.specs.declared.execution.Execution.{Execution}
 use Rattle.mv_refine.specs.Execution.{SameFit, HeardAs, RunsImage, Executes}
-use Rattle.mv_refine.specs.Run.{IsDone, Stands, StandsBefore, Runs}
+use Rattle.mv_refine.specs.Run.{IsDone, StandsAfter, StandsBefore, Runs}
 use Rattle.mv_refine.proofs.Cut.{takes_more, outputs_more}
-use Rattle.mv_refine.specs.Meant.{DoesAll, DoesPart, KeepsUp, Does, IsAnswer, Decides}
+use Rattle.mv_refine.specs.Meant.{DoesAll, DoesPart, KeepsUp, WroteAndTook, IsAnswer, EndsInTime}
 
 -- ---- ends
 
@@ -121,7 +121,7 @@ module _ (p : Program) (image : Fields) (actions : List Action) (steps : ℕ) (b
       let same : (mean p input actions steps).«end» ≡ (mean p input actions k).«end» = one_end p actions input steps k (λ more. finished (sym ending ∙ more)) over in
       subst (λ (x : End). IsAnswer x stopped) (sym ending ∙ same) is
 
-  decides : (stopped : Stopped) → Does p image actions steps before after Heard machine taken later stopped → Decides p actions steps before after input stopped
+  decides : (stopped : Stopped) → WroteAndTook p image actions steps before after Heard machine taken later stopped → EndsInTime p actions steps before after input stopped
   decides (answer.Ended status) d calm_in calm_out k enough over = same_end k (source.Exit status) (answer.Ended status) (λ e. cc) refl d.ending over
   decides (answer.Trapped code) d calm_in calm_out k enough over = same_end k (source.Trap code) (answer.Trapped code) (λ e. cc) refl d.ending over
   decides answer.Steps d calm_in calm_out k enough over = absurd (over (d.2 k enough).0)
@@ -137,11 +137,11 @@ fit_act : (p : Program) (a : Action) → act_fits p 0 (act_of a) ≡ fits p a
 fit_act p Skip = refl
 fit_act p (Flip switch value) = refl
 
-fit_program : (p : Program) (image : Fields) → SameFit p image → (actions : List Action) → All (λ a. IsTrue (image_actions.fits image.switches a)) actions →
+fit_program : (p : Program) (image : Fields) → SameFit p image → (actions : List Action) → All (λ a. IsTrue (image_actions.fits_rows image.switches a)) actions →
     All (λ a. IsTrue (act_fits p 0 a)) (map act_of actions)
 fit_program p image same actions fit =
     All-map (λ a. IsTrue (act_fits p 0 a)) act_of actions
-    (All-weaker (λ a. IsTrue (image_actions.fits image.switches a)) (λ a. IsTrue (act_fits p 0 (act_of a))) (λ a h. subst IsTrue (same a ∙ sym (fit_act p a)) h) actions fit)
+    (All-weaker (λ a. IsTrue (image_actions.fits_rows image.switches a)) (λ a. IsTrue (act_fits p 0 (act_of a))) (λ a h. subst IsTrue (same a ∙ sym (fit_act p a)) h) actions fit)
 
 word_act : (a : Action) → IsOfWord a → IsActOfWord (act_of a)
 word_act Skip h = h
@@ -159,7 +159,8 @@ kept_room : (machine : Snapshot) (s : State) → machine ≡ kept s machine.last
 unfolding kept
 kept_room machine s is = ap (λ (m : Snapshot). m.room) is
 
-module _ (p : Program) (image : Fields) (behaves : BehavesAlways p image) (actions : List Action) (words : All IsActOfWord (map act_of actions)) (fit : All (λ a. IsTrue (act_fits p 0 a)) (map act_of actions)) (steps : ℕ) (before after : Environment) (Heard : List Event → Type 0) (machine : Snapshot)
+module _ (p : Program) (image : Fields) (behaves : BehavesAlways p image) (actions : List Action) (words : All IsActOfWord (map act_of actions))
+    (fit : All (λ a. IsTrue (act_fits p 0 a)) (map act_of actions)) (steps : ℕ) (before after : Environment) (Heard : List Event → Type 0) (machine : Snapshot)
     (picks taken later : List ℕ) (are : All (λ b. b < 2 ^ 8) (taken ++ later)) where
   abbrev b : Behaves p image (taken ++ later) (polls_of actions) picks
   b = behaves (taken ++ later) (polls_of actions) picks are words fit
@@ -181,7 +182,7 @@ module _ (p : Program) (image : Fields) (behaves : BehavesAlways p image) (actio
   ends : EndsRight (taken ++ later) (here steps) (mean p (taken ++ later) actions steps)
   ends = b.ends steps
 
-  over : (stop : Stop) → (stop ≡ Going → ⊥) → Stands image (polls_of actions) before after Heard machine picks taken later stop steps → (here steps).stop ≡ Going → ⊥
+  over : (stop : Stop) → (stop ≡ Going → ⊥) → StandsAfter image (polls_of actions) before after Heard machine picks taken later stop steps → (here steps).stop ≡ Going → ⊥
   over stop other s going = other (sym s.stops ∙ going)
 
   -- before a call that failed it is so far
@@ -195,7 +196,7 @@ module _ (p : Program) (image : Fields) (behaves : BehavesAlways p image) (actio
   roomy : StandsBefore image (polls_of actions) before after Heard machine picks taken later WantsMemory steps → ⊥
   roomy s = b.roomy s.count (slice_index picks s.count) s.next
 
-  does : (stopped : Stopped) → Runs image (polls_of actions) before after Heard machine picks taken later steps stopped → Does p image actions steps before after Heard machine taken later stopped
+  does : (stopped : Stopped) → Runs image (polls_of actions) before after Heard machine picks taken later steps stopped → WroteAndTook p image actions steps before after Heard machine taken later stopped
   does (answer.Ended status) r =
       let s = r.stands in
       all p image before after Heard machine taken later actions picks steps b (source.Exit status) (leaves steps s.done) (over (Exit status) (λ e. cc) s) (ends.exits status s.stops)
@@ -210,16 +211,18 @@ module _ (p : Program) (image : Fields) (behaves : BehavesAlways p image) (actio
       )
   does answer.InputFault r =
       let s = r.0 in
-      (_, stuck (λ s pick. Asks s pick Reads) s, r.1, takes_more p image behaves actions words fit taken later are picks s.count steps s.fewer s.done.left s.going s.next)
+      (_, stuck (λ s pick. CallsFor s pick Reads) s, r.1, takes_more p image behaves actions words fit taken later are picks s.count steps s.fewer s.done.left s.going s.next)
   does answer.OutputFault r =
       let s = r.0 in
-      (_, stuck (λ s pick. Asks s pick Writes) s, r.1, outputs_more p image behaves actions words fit taken later are picks s.count steps s.fewer s.going s.next)
+      (_, stuck (λ s pick. CallsFor s pick Writes) s, r.1, outputs_more p image behaves actions words fit taken later are picks s.count steps s.fewer s.going s.next)
   does (answer.Fault pc why) r = ends.faults why r.stands.stops
   does answer.Memory r = roomy r
 
 -- ---- what a run of the image of a program that was built is
 
-pub executes : (built : Built) (actions : List Action) (words : All IsOfWord actions) (fit : All (λ a. IsTrue (image_actions.fits built.image.switches a)) actions) (places : Bool) (steps : ℕ) (before after : Environment) (Heard : List Event → Type 0) →
+pub executes : (built : Built) (actions : List Action) (words : All IsOfWord actions)
+    (fit : All (λ a. IsTrue (image_actions.fits_rows built.image.switches a)) actions) (places : Bool) (steps : ℕ) (before after : Environment)
+    (Heard : List Event → Type 0) →
     (result : Result Execution AllocError) → RunsImage built.image actions places steps before after Heard result → Executes built actions places steps before after Heard result
 executes built actions words fit places steps before after Heard (Ok e) (log, logs, (picks, (taken, lost, each))) = (
   log,
@@ -236,7 +239,7 @@ executes built actions words fit places steps before after Heard (Ok e) (log, lo
           let stopped = e.report.stopped in
           let are : AreToldBytes before.input.left → All (λ b. b < 2 ^ 8) (taken ++ later) =
           (λ told. are_bytes before.input.left (taken ++ later) told (may_come before.input.left after.input.left taken later lost may)) in
-          let is : BehavesAlways p image → SameFit p image → AreToldBytes before.input.left → Does p image actions steps before after (HeardAs Heard log) e.machine taken later stopped =
+          let is : BehavesAlways p image → SameFit p image → AreToldBytes before.input.left → WroteAndTook p image actions steps before after (HeardAs Heard log) e.machine taken later stopped =
           (λ behaves same told. does p image behaves actions (words_acts actions words) (fit_program p image same actions fit) steps before after (HeardAs Heard log) e.machine picks taken later (are told) stopped runs.0) in
           record {
             runs = runs.0;

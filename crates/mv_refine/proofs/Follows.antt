@@ -9,7 +9,7 @@ use Rattle.mv_patch.specs.Orders.{is_known_order}
 use Rattle.mv_machine.proofs.Leaving.{Leaves as EachLeaves, planned_leaves, polled_leaves}
 use Rattle.mv_machine.proofs.Turns.{turn_by, runs_more}
 use Rattle.mv_machine.specs.Runs.{State, Stop, Going, Exit, Trap, Fault, Request, Exits, Reads, Writes, Traps, Plans, Polls, Unknown, request_of, argument, live_frames, word_read, next_read, later_reads, answered, stopped, refused, ordered, planned, acted, polled, environment_call, choices_at, fetched_step, after, is_going, turn, runs_from}
-use Rattle.mv_machine.specs.Snapshots.{Asks}
+use Rattle.mv_machine.specs.Snapshots.{CallsFor}
 use Rattle.mv_refine.specs.CutRuns.{with_input, TakenIsEnough, ReadTakesMore, WriteWritesMore}
 use Rattle.mv_refine.proofs.Leaves.{Leaves, turn_leaves}
 
@@ -150,7 +150,7 @@ unfolding fetched_step choices_at
 same_step s input pick = refl
 
 -- a read of the one answer that is to come leaves nothing
-read_empties : (s : State) (more : Option ℕ) (pick : ℕ) → s.stop ≡ Going → Asks s pick Reads → (turn (with_input s (more ∷ [])) pick).input ≡ []
+read_empties : (s : State) (more : Option ℕ) (pick : ℕ) → s.stop ≡ Going → CallsFor s pick Reads → (turn (with_input s (more ∷ [])) pick).input ≡ []
 unfolding answered
 read_empties s more pick going asks =
     ap (λ (t : State). t.input) (turn_by (with_input s (more ∷ [])) pick Calls going (same_step s (more ∷ []) pick ∙ asks.0))

@@ -9,10 +9,10 @@ use Rattle.mv_machine.specs.Acts.{PollActs, polls_of}
 use Rattle.mv_machine.specs.declared.machine.Stopped.{Stopped}
 use Rattle.mv_machine.specs.declared.machine.Stopped.TheVariants as answer
 use Rattle.mv_machine.specs.Runs.{State, Stop, Going, Exit, Trap, Fault, Reads, Writes, bytes_to_come, first, runs}
-use Rattle.mv_machine.specs.Snapshots.{Snapshot, kept, resumed, Under, Asks, WantsMemory, Reached, Whole, Faulted, Broken, Answered, Counts, Departs, Ran, Unless}
+use Rattle.mv_machine.specs.Snapshots.{Snapshot, kept, resumed, Under, CallsFor, WantsMemory, Reached, Whole, Faulted, Broken, Answered, HasCounted, Departs, Ran, Unless}
 use Rattle.mv_probe.specs.Ways.{way_after}
 use Rattle.mv_refine.specs.Environment.{Environment, OneRun, ReadFailed, WriteFailed}
-use Rattle.mv_refine.specs.Run.{IsDone, Stands, RanTo, FaultedAt, StandsBefore, Runs}
+use Rattle.mv_refine.specs.Run.{IsDone, StandsAfter, RanTo, FaultedAt, StandsBefore, Runs}
 use Rattle.mv_machine.proofs.Starts.{first_state}
 
 pub unless_fresh : (m : Snapshot) (s : State) (ran : Type 0) → m ≡ kept s None → Unless m.last ran → ran
@@ -47,7 +47,7 @@ module _ (image : Fields) (polls : PollActs) (before after : Environment) (Told 
     machine_is = shows (state n) is r.image r.regs r.pc r.memory r.bindings;
   }
 
-  stands : (n : ℕ) (stop : Stop) → At (state n) stop → Stands image polls before after Told is picks taken later stop n
+  stands : (n : ℕ) (stop : Stop) → At (state n) stop → StandsAfter image polls before after Told is picks taken later stop n
   stands n stop r = record { done = done n stop r; stops = r.stopped }
 
   module _ (steps : ℕ) where
@@ -76,8 +76,8 @@ module _ (image : Fields) (polls : PollActs) (before after : Environment) (Told 
     runs_by (answer.Ended status) a = whole (Exit status) a
     runs_by (answer.Trapped code) a = whole (Trap code) a
     runs_by answer.Steps a = whole Going a
-    runs_by answer.InputFault a = (stuck (λ s pick. Asks s pick Reads) (λ s pick. Asks s pick Reads × ReadFailed before after) (λ s pick w. w.0) a, a.cause.1)
-    runs_by answer.OutputFault a = (stuck (λ s pick. Asks s pick Writes) (λ s pick. Asks s pick Writes × WriteFailed before after) (λ s pick w. w.0) a, a.cause.1)
+    runs_by answer.InputFault a = (stuck (λ s pick. CallsFor s pick Reads) (λ s pick. CallsFor s pick Reads × ReadFailed before after) (λ s pick w. w.0) a, a.cause.1)
+    runs_by answer.OutputFault a = (stuck (λ s pick. CallsFor s pick Writes) (λ s pick. CallsFor s pick Writes × WriteFailed before after) (λ s pick w. w.0) a, a.cause.1)
     runs_by (answer.Fault pc why) a = faulted pc why a
     runs_by answer.Memory a = stuck WantsMemory WantsMemory (λ s pick w. w) a
 
@@ -91,7 +91,7 @@ module _ (image : Fields) (actions : List Action) (before after : Environment) (
   polls = polls_of actions
 
   pub made : OneRun before after (λ picks taken later.
-      Runs image (polls_of actions) before after Told is picks taken later steps stopped × Counts stopped steps (first image (bytes_to_come (taken ++ later)) (polls_of actions)) picks count
+      Runs image (polls_of actions) before after Told is picks taken later steps stopped × HasCounted stopped steps (first image (bytes_to_come (taken ++ later)) (polls_of actions)) picks count
       × Departs places place (first image (bytes_to_come (taken ++ later)) (polls_of actions)) picks count)
   made = (
     ran.picks,
@@ -105,7 +105,7 @@ module _ (image : Fields) (actions : List Action) (before after : Environment) (
           let start : resumed was input actions ≡ first image input polls = ap (λ (m : Snapshot). resumed m input actions) fresh ∙ first_state image input actions in (
             runs_by image polls before after Told is ran.picks taken later ran.way_is (subst (λ (s : State). Under before.way s ran.picks) start r.0) steps stopped
                 (subst (λ (s : State). Answered stopped steps s ran.picks (λ e stop. Reached e stop is (bytes_to_come later) before.output.written after.output.written Told) (ReadFailed before after) (WriteFailed before after)) start r.1),
-            subst (λ (s : State). Counts stopped steps s ran.picks count) start r.2,
+            subst (λ (s : State). HasCounted stopped steps s ran.picks count) start r.2,
             subst (λ (s : State). Departs places place s ran.picks count) start r.3,
           ),
     ),

@@ -1,7 +1,7 @@
 -- What a run does on what it has taken of its input and one more answer, and what its next instruction does.
 use Rattle.std.specs.Prelude.{ℕ, ◌≡◌, ◌+◌, ◌⊎◌, List, [], ◌∷◌, ◌++◌, slice_index, Option}
 use Rattle.mv_machine.specs.Runs.{State, Going, Reads, Writes, runs_from}
-use Rattle.mv_machine.specs.Snapshots.{Asks}
+use Rattle.mv_machine.specs.Snapshots.{CallsFor}
 
 -- a state with something else to read
 abbrev pub with_input : State → (input : List (Option ℕ)) → State
@@ -19,11 +19,11 @@ TakenIsEnough =
 abbrev pub ReadTakesMore : Type 0
 ReadTakesMore =
     (s : State) (picks : List ℕ) (n : ℕ) (taken rest : List (Option ℕ)) (more : Option ℕ) → s.input ≡ taken ++ rest → (runs_from s picks n).input ≡ rest →
-    (runs_from s picks n).stop ≡ Going → Asks (runs_from s picks n) (slice_index picks n) Reads →
+    (runs_from s picks n).stop ≡ Going → CallsFor (runs_from s picks n) (slice_index picks n) Reads →
     (runs_from (with_input s (taken ++ more ∷ [])) picks (n + 1)).input ≡ []
 
 -- Where its next instruction writes, there is one byte more of output behind it.
 abbrev pub WriteWritesMore : Type 0
 WriteWritesMore =
-    (s : State) (picks : List ℕ) (n : ℕ) → (runs_from s picks n).stop ≡ Going → Asks (runs_from s picks n) (slice_index picks n) Writes →
+    (s : State) (picks : List ℕ) (n : ℕ) → (runs_from s picks n).stop ≡ Going → CallsFor (runs_from s picks n) (slice_index picks n) Writes →
     (byte : ℕ) × ((runs_from s picks (n + 1)).output ≡ (runs_from s picks n).output ++ byte ∷ [])

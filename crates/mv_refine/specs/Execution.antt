@@ -11,17 +11,17 @@ use Rattle.mv_refine_machine.specs.Runs.Behaves.{BehavesAlways}
 use Rattle.mv_machine.specs.Actions as machine
 use Rattle.mv_machine.specs.Acts.{polls_of}
 use Rattle.mv_machine.specs.Runs.{bytes_to_come, first}
-use Rattle.mv_machine.specs.Snapshots.{Counts, Departs, Logs}
+use Rattle.mv_machine.specs.Snapshots.{HasCounted, Departs, Logs}
 use Rattle.mv_machine.specs.declared.machine.Report.{Report}
 use Rattle.mv_refine.specs.declared.execution.Execution.{Execution}
 use Rattle.mv_io.specs.Outside.{AreToldBytes}
 use Rattle.mv_refine.specs.Environment.{Environment, OneRun}
-use Rattle.mv_refine.specs.Meant.{Does, Decides}
+use Rattle.mv_refine.specs.Meant.{WroteAndTook, EndsInTime}
 use Rattle.mv_refine.specs.Run.{Runs}
 
 -- the same actions fit an image and a program
 abbrev pub SameFit : Program → Fields → Type 0
-SameFit p image = (action : Action) → machine.fits image.switches action ≡ source.fits p action
+SameFit p image = (action : Action) → machine.fits_rows image.switches action ≡ source.fits p action
 
 -- the probes were told these events, and the log has them
 abbrev pub HeardAs : (Heard : List Event → Type 0) → (log : List Event) → List Event → Type 0
@@ -29,7 +29,7 @@ HeardAs Heard log events = Heard events × (log ≡ events)
 
 -- so many instructions of a run with these picks on these bytes were executed
 abbrev pub HasCount : (image : Fields) (actions : List Action) (steps : ℕ) (picks bytes : List ℕ) → Report → Type 0
-HasCount image actions steps picks bytes report = Counts report.stopped steps (first image (bytes_to_come bytes) (polls_of actions)) picks report.executed
+HasCount image actions steps picks bytes report = HasCounted report.stopped steps (first image (bytes_to_come bytes) (polls_of actions)) picks report.executed
 
 -- where places are wanted the report has the departure of these instructions, and else none
 abbrev pub HasDeparture : (image : Fields) (actions : List Action) (places : Bool) (picks bytes : List ℕ) → Report → Type 0
@@ -52,9 +52,9 @@ module _ (built : Built) (actions : List Action) (places : Bool) (steps : ℕ) (
     pub count : HasCount built.image actions steps picks (taken ++ later) e.report
     pub place : HasDeparture built.image actions places picks (taken ++ later) e.report
     pub does : BehavesAlways built.program built.image → SameFit built.program built.image → AreToldBytes before.input.left →
-        Does built.program built.image actions steps before after Heard e.machine taken later e.report.stopped
+        WroteAndTook built.program built.image actions steps before after Heard e.machine taken later e.report.stopped
     pub decides : BehavesAlways built.program built.image → SameFit built.program built.image → AreToldBytes before.input.left →
-        Decides built.program actions steps before after (taken ++ later) e.report.stopped
+        EndsInTime built.program actions steps before after (taken ++ later) e.report.stopped
 
 module _ (built : Built) (actions : List Action) (places : Bool) (steps : ℕ) (before after : Environment) (Heard : List Event → Type 0) where
   -- an execution with its log, or want of memory before its first instruction, with all as before

@@ -66,14 +66,14 @@ module _ (p : Program) (image : Fields) (actions : List Action) (steps : ℕ) (b
   Part piece = DoesPart before after Heard machine taken meant piece
 
   -- What was written and taken, by the answer. Where a device failed, the meaning reads or writes on. No answer is a fault or want of memory.
-  abbrev pub Does : Stopped → Type 0
-  Does (Ended status) = DoesAll before after Heard machine taken meant image (Exit status)
-  Does (Trapped code) = DoesAll before after Heard machine taken meant image (Trap code)
-  Does Steps = (piece : List ℕ) × Part piece × KeepsUp p actions (taken ++ later) steps piece
-  Does InputFault = (piece : List ℕ) × Part piece × ReadFailed before after × TakesMore p actions steps taken
-  Does OutputFault = (piece : List ℕ) × Part piece × WriteFailed before after × WritesMore p actions (taken ++ later) steps piece
-  Does (Fault pc why) = ⊥
-  Does Memory = ⊥
+  abbrev pub WroteAndTook : Stopped → Type 0
+  WroteAndTook (Ended status) = DoesAll before after Heard machine taken meant image (Exit status)
+  WroteAndTook (Trapped code) = DoesAll before after Heard machine taken meant image (Trap code)
+  WroteAndTook Steps = (piece : List ℕ) × Part piece × KeepsUp p actions (taken ++ later) steps piece
+  WroteAndTook InputFault = (piece : List ℕ) × Part piece × ReadFailed before after × TakesMore p actions steps taken
+  WroteAndTook OutputFault = (piece : List ℕ) × Part piece × WriteFailed before after × WritesMore p actions (taken ++ later) steps piece
+  WroteAndTook (Fault pc why) = ⊥
+  WroteAndTook Memory = ⊥
 
 -- the answer is this end
 abbrev pub IsAnswer : End → Stopped → Type 0
@@ -83,7 +83,7 @@ IsAnswer More stopped = ⊥
 
 module _ (p : Program) (actions : List Action) (steps : ℕ) (before after : Environment) where
   -- Where no count of faults rose, and there was time for all that is meant on these bytes at a bound at which the meaning has ended, the answer is that end.
-  abbrev pub Decides : (bytes : List ℕ) → Stopped → Type 0
-  Decides bytes stopped =
+  abbrev pub EndsInTime : (bytes : List ℕ) → Stopped → Type 0
+  EndsInTime bytes stopped =
       (ReadFailed before after → ⊥) → (WriteFailed before after → ⊥) → (bound : ℕ) → IsEnough p actions bytes steps bound →
       ((mean p bytes actions bound).«end» ≡ More → ⊥) → IsAnswer (mean p bytes actions bound).«end» stopped

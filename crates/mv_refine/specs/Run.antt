@@ -8,7 +8,7 @@ use Rattle.mv_machine.specs.declared.machine.Stopped.{Stopped}
 use Rattle.mv_machine.specs.declared.machine.Stopped.TheVariants.{Ended, Trapped, Steps, InputFault, OutputFault, Fault, Memory}
 use Rattle.mv_machine.specs.Runs.{State, Stop, Going, Exit, Trap, Reads, Writes, bytes_to_come, choices_at, first, runs, executed}
 use Rattle.mv_machine.specs.Runs as run
-use Rattle.mv_machine.specs.Snapshots.{Snapshot, kept, Under, Asks, WantsMemory}
+use Rattle.mv_machine.specs.Snapshots.{Snapshot, kept, Under, CallsFor, WantsMemory}
 use Rattle.mv_probe.specs.Ways.{way_after}
 use Rattle.mv_refine.specs.Environment.{Environment, Wrote, ReadFailed, WriteFailed}
 
@@ -32,18 +32,18 @@ module _ (image : Fields) (polls : PollActs) (before after : Environment) (Heard
     pub machine_is : machine ≡ kept (state n) machine.last
 
   -- It stands so after that number of instructions, or after the one that ended it.
-  pub record Stands (stop : Stop) (n : ℕ) : Type 0 where
+  pub record StandsAfter (stop : Stop) (n : ℕ) : Type 0 where
     pub done : IsDone n
     pub stops : (state n).stop ≡ stop
 
   -- And there was one pick for each instruction that was executed.
   pub record RanTo (stop : Stop) (n : ℕ) : Type 0 where
-    pub stands : Stands stop n
+    pub stands : StandsAfter stop n
     pub each : executed begun picks n ≡ length picks
 
   -- It stands at a fault at this pc, with one pick for each instruction that was executed, but for one at an address where no word can be fetched.
   pub record FaultedAt (pc : ℕ) (why : Cause) (n : ℕ) : Type 0 where
-    pub stands : Stands (run.Fault why) n
+    pub stands : StandsAfter (run.Fault why) n
     pub place : machine.pc ≡ pc
     pub each : executed begun picks n ≡ length picks + (1 - choices_at (state n))
 
@@ -63,6 +63,6 @@ module _ (image : Fields) (polls : PollActs) (before after : Environment) (Heard
   Runs steps (Trapped code) = RanTo (Trap code) steps
   Runs steps Steps = RanTo Going steps
   Runs steps (Fault pc why) = FaultedAt pc why steps
-  Runs steps InputFault = StandsBefore (λ s pick. Asks s pick Reads) steps × ReadFailed before after
-  Runs steps OutputFault = StandsBefore (λ s pick. Asks s pick Writes) steps × WriteFailed before after
+  Runs steps InputFault = StandsBefore (λ s pick. CallsFor s pick Reads) steps × ReadFailed before after
+  Runs steps OutputFault = StandsBefore (λ s pick. CallsFor s pick Writes) steps × WriteFailed before after
   Runs steps Memory = StandsBefore WantsMemory steps

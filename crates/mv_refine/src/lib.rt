@@ -31,7 +31,7 @@
 ghost use Rattle.std.specs.Prelude.{◌≡◌, ◌≤◌, false, None, All, IfOk, IsTrue};
 ghost use Rattle.mv_bindings.specs.Acts.{IsOfWord};
 ghost use Rattle.mv_io.specs.Outside.{CountAfter};
-ghost use Rattle.mv_machine.specs.Actions.{fits};
+ghost use Rattle.mv_machine.specs.Actions.{fits_rows};
 ghost use Rattle.mv_machine.specs.Snapshots.{is_input_fault, is_output_fault};
 ghost use Rattle.mv_probe.specs.Fates.{Fates};
 ghost use Rattle.mv_probe.specs.Hearing.{hearing, object_at, Becomes, IsPatient};
@@ -67,7 +67,7 @@ pub fn run_image<I: Source, O: Sink>(
     actions: &[Action],
 ) -> Result<Execution, AllocError>
     requires patient { All (λ probe. IsPatient (hearing (told probe) (patience probe))) probes.old.items }
-    requires fit { All (λ action. IsTrue (fits image.now.switches action)) actions.now }
+    requires fit { All (λ action. IsTrue (fits_rows image.now.switches action)) actions.now }
     ensures runs { RunsImage image.now actions.now places steps
         (environment (reading (I.left source.old) (I.faults source.old)) (writing (O.written sink.old) (O.faults sink.old)) (way oracle.old))
         (environment (reading (I.left source.new) (I.faults source.new)) (writing (O.written sink.new) (O.faults sink.new)) (way oracle.new))
@@ -101,7 +101,7 @@ pub fn execute<I: Source, O: Sink>(
     actions: &[Action],
 ) -> Result<Execution, AllocError>
     requires patient { All (λ probe. IsPatient (hearing (told probe) (patience probe))) probes.old.items }
-    requires fit { All (λ action. IsTrue (fits built.now.image.switches action)) actions.now }
+    requires fit { All (λ action. IsTrue (fits_rows built.now.image.switches action)) actions.now }
     ensures executes { Executes built.now actions.now places steps
         (environment (reading (I.left source.old) (I.faults source.old)) (writing (O.written sink.old) (O.faults sink.old)) (way oracle.old))
         (environment (reading (I.left source.new) (I.faults source.new)) (writing (O.written sink.new) (O.faults sink.new)) (way oracle.new))

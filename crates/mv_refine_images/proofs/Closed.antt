@@ -1,6 +1,6 @@
 -- What the code of a function, of a variant and of an inline body may load isn't closed to its words.
 use Rattle.std.proofs.Common.{◌≡◌, ◌⊎◌, inl, inr, ⊎_elim, ℕ, zero, suc, ◌+◌, ◌*◌, ◌%◌, ◌<◌, ◌≤◌, Bool, true, false, not, cond, ◌&&◌, ◌||◌, eqb, leb, ltb, List, [], ◌∷◌, Option, Some, None, is_some, length, slice_get, refl, sym, ap, ap₂, ◌∙◌, subst, arith, eq-eqb}
-use Rattle.std.proofs.lemmas.Bool.{cases_eq, cases_lt, and_parts, eqb-true, leb-true, ltb-true, lt-leb, le-ltb, ne_eqb}
+use Rattle.std.proofs.lemmas.Bool.{cases_eq, cases_lt, and_parts, or_right, eqb-true, leb-true, ltb-true, lt-leb, le-ltb, ne_eqb}
 use Rattle.std.proofs.lemmas.Option.{slice_get_within}
 use Rattle.mv_ast.specs.declared.program.Program.{Program}
 use Rattle.mv_ast.specs.declared.program.Function.{Function}
@@ -57,13 +57,9 @@ module _ (y : Layout) (out : IsSetOut y) (a : ℕ) where
   abbrev Among : List ℕ → Type 0
   Among gs = (x : ℕ) × (is_among x gs ≡ true) × In x
 
-  later : (b c : Bool) → c ≡ true → (b || c) ≡ true
-  later true c h = refl
-  later false c h = h
-
   first_or_later : (g : ℕ) (gs : List ℕ) (b : Bool) → is_data_of y g a ≡ b → (is_in_globals y gs a ≡ true → Among gs) → (b || is_in_globals y gs a) ≡ true → Among (g ∷ gs)
   first_or_later g gs true e rest h = (g, ap (λ c. c || is_among g gs) (eq-eqb g g refl), in_data g e)
-  first_or_later g gs false e rest h = let r = rest h in (r.0, later (eqb r.0 g) (is_among r.0 gs) r.1, r.2)
+  first_or_later g gs false e rest h = let r = rest h in (r.0, or_right (eqb r.0 g) (is_among r.0 gs) r.1, r.2)
 
   among : (gs : List ℕ) → is_in_globals y gs a ≡ true → Among gs
   among [] h = absurd cc

@@ -44,7 +44,8 @@ few_values p f g vs formed here is combination =
     few : (gs : List Function) (n : ℕ) → slice_get gs n ≡ Some g → All (λ (x : Function). length x.switches ≤ 6) gs → length g.switches ≤ 6
     few gs n e h = subst (λ (z : Function). length z.switches ≤ 6) (get_or_from_slice_get gs n g g e) (h n g (slice_get_within gs n g e))
 
-module _ (show_free : FreeFunctionsShow) (show_bound : BoundFunctionsShow) (attributed : List ℕ) (image : Fields) (closed : (pc address : ℕ) → Bool) (base : ℕ) (lines : List Line) (sizing words : List ℕ) (are : AreWordsUnder base lines sizing words)
+module _ (show_free : FreeFunctionsShow) (show_bound : BoundFunctionsShow) (attributed : List ℕ) (image : Fields) (closed : (pc address : ℕ) → Bool)
+    (base : ℕ) (lines : List Line) (sizing words : List ℕ) (are : AreWordsUnder base lines sizing words)
     (has : HasWords image base words) (y : Layout) (p : Program) (numbers : List ℕ) (f : ℕ) (g : Function) (formed : IsWellFormed p) (here : slice_get p.functions f ≡ Some g) (is : g.attributed ≡ true)
     (t : IsInTables attributed image closed base lines sizing y p numbers f g) where
   abbrev n : ℕ

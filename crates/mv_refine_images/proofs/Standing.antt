@@ -172,7 +172,9 @@ module _ (p : Program) (image : Fields) (basis : Basis p image) where
       is_at : IsVariantAt p built.tables n f led.place g v
       is_at = record { number = table.1.number; there = here; variants = table.0; table = table.1.table; at = led.there }
 
-      abbrev coded : (part : PartVariant) × IsLinkedVariant parts n led.place part × ((shorts : Shorts) → AreShortsOf p shorts → (values : List ℕ) → IsVariantOf shorts (zip (lower_function p g).switches values) (lower_function p g) v.body → IsVariantCode p y numbers g values v.body part)
+      abbrev coded : (part : PartVariant) × IsLinkedVariant parts n led.place part
+          × ((shorts : Shorts) → AreShortsOf p shorts → (values : List ℕ) → IsVariantOf shorts (zip (lower_function p g).switches values) (lower_function p g) v.body
+          → IsVariantCode p y numbers g values v.body part)
       coded = laws.variant_code p built.bodies built.tables parts y numbers (laid_out p image basis) n f led.place g v is_at
 
       abbrev part : PartVariant

@@ -18,7 +18,7 @@ use Rattle.mv_ir_worlds.proofs.Combining.{words_told, words_same, binding_told, 
 
 -- ---- what each test tells
 
-going_told : (stop : Stop) → is_going stop ≡ true → stop ≡ Going
+pub going_told : (stop : Stop) → is_going stop ≡ true → stop ≡ Going
 going_told Going h = refl
 going_told (Exit status) h = absurd (cc)
 going_told (Trap code) h = absurd (cc)

@@ -79,7 +79,7 @@ pub beside_points : (image : Fields) (bound : Bindings) (a word : ℕ) → point
 unfolding word_under
 beside_points image bound a word e = ap (word_through image bound a word) e
 
-none_of : {A : Type 0} (o : Option A) → is_some o ≡ false → o ≡ None
+pub none_of : {A : Type 0} (o : Option A) → is_some o ≡ false → o ≡ None
 none_of None h = refl
 none_of (Some x) h = absurd (cc)
 

@@ -1,12 +1,12 @@
 -- A run begins in calm.
 use Rattle.std.proofs.Common.{◌≡◌, ℕ, zero, suc, ◌+◌, true, List, [], ◌∷◌, length, replicate, None, refl, sym, ap, ap₂, ◌∙◌, false, Some, take, if◌then◌else◌}
-use Rattle.std.proofs.lemmas.List.{length-replicate}
 use Rattle.std.specs.Prelude.{All}
 use Rattle.std.proofs.lemmas.List.Elements.{All-head, All-tail}
 use Rattle.mv_machine.specs.Acts.{PollActs}
 use Rattle.mv_bindings.specs.Bindings.{free}
 use Rattle.mv_bindings.specs.declared.binding.Binding.{Binding}
-use Rattle.mv_fetch.specs.Held.{zeros, older_at, first as first_memory}
+use Rattle.mv_fetch.specs.Held.{older_at, first as first_memory}
+use Rattle.mv_fetch.proofs.Histories.{length_zeros}
 use Rattle.mv_image.specs.Spelling.{Fields}
 use Rattle.mv_image.specs.Patched.{Bindings, words_under, text_of}
 use Rattle.mv_ir.specs.World.{World}
@@ -54,17 +54,13 @@ none_older zero i = refl
 none_older (suc n) zero = refl
 none_older (suc n) (suc i) = none_older n i
 
-pub zeros_count : (n : ℕ) → length (zeros n) ≡ n
-unfolding zeros
-zeros_count n = length-replicate n 0
-
 first_calm : (image : Fields) (input : List ℕ) (polls : PollActs) (w : World) → IsFirst image input w → IsCalm image w (rest_of (first image (bytes_to_come input) polls))
 unfolding first first_memory
 first_calm image input polls w h = record {
   goes_on = refl;
   text = sym (free_text image (values_of (first_bindings image)) (none_bound (binding_count image)));
   no_older = none_older (length image.text);
-  stack = zeros_count stack_words;
+  stack = length_zeros stack_words;
   input = ap bytes_to_come (sym h.input);
   output = sym h.output;
   bindings = sym h.bindings;

@@ -38,7 +38,8 @@ module _ (c : ℕ → ℕ) where
     tree_layer (tree.Function n) h = ap g (renamed_tree_roll c (tree.Function n))
     tree_layer (tree.Unary o a) h = ap g (renamed_tree_roll c (tree.Unary o a)) ∙ rolls (tree.Unary o (renamed_tree c a)) ∙ ap (λ y. layer (tree.Unary o y)) h ∙ sym (rolls (tree.Unary o a))
     tree_layer (tree.Binary o a b) h =
-        ap g (renamed_tree_roll c (tree.Binary o a b)) ∙ rolls (tree.Binary o (renamed_tree c a) (renamed_tree c b)) ∙ ap (λ y. layer (tree.Binary o y (g (renamed_tree c b)))) h.0 ∙ ap (λ y. layer (tree.Binary o (g a) y)) h.1 ∙ sym (rolls (tree.Binary o a b))
+        ap g (renamed_tree_roll c (tree.Binary o a b)) ∙ rolls (tree.Binary o (renamed_tree c a) (renamed_tree c b)) ∙
+        ap (λ y. layer (tree.Binary o y (g (renamed_tree c b)))) h.0 ∙ ap (λ y. layer (tree.Binary o (g a) y)) h.1 ∙ sym (rolls (tree.Binary o a b))
     tree_layer (tree.Narrow k a) h = ap g (renamed_tree_roll c (tree.Narrow k a)) ∙ rolls (tree.Narrow k (renamed_tree c a)) ∙ ap (λ y. layer (tree.Narrow k y)) h ∙ sym (rolls (tree.Narrow k a))
 
     same_tree : (t : Tree) → SameOf t
@@ -75,7 +76,9 @@ module _ (c : ℕ → ℕ) where
   trees_from : (x : Stm-F Stm) → map (renamed_tree c) (layer_trees (map-Stm Stm (List Tree) stm_trees x)) ≡ map (renamed_tree c) (stm_trees (roll-Stm x))
   trees_from x = ap (map (renamed_tree c)) (sym (trees_roll x))
 
-  two_lists : (a b : List Stm) → Each HasTrees a → Each HasTrees b → joined (map stm_trees (map (renamed_stm c) a)) ++ joined (map stm_trees (map (renamed_stm c) b)) ≡ map (renamed_tree c) (joined (map stm_trees a) ++ joined (map stm_trees b))
+  two_lists : (a b : List Stm) → Each HasTrees a → Each HasTrees b →
+      joined (map stm_trees (map (renamed_stm c) a)) ++ joined (map stm_trees (map (renamed_stm c) b)) ≡ map (renamed_tree c)
+      (joined (map stm_trees a) ++ joined (map stm_trees b))
   two_lists a b ha hb =
       ap (λ l. l ++ joined (map stm_trees (map (renamed_stm c) b))) (joined_renamed stm_trees (renamed_tree c) a ha) ∙
       ap (λ l. map (renamed_tree c) (joined (map stm_trees a)) ++ l) (joined_renamed stm_trees (renamed_tree c) b hb) ∙

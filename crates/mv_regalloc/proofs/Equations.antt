@@ -83,4 +83,20 @@ module _ (c : ℕ → ℕ) where
 
 pub ruleset renamed_trees = (renamed_number, renamed_temp, renamed_global, renamed_function, renamed_unary, renamed_binary, renamed_narrow)
 
-pub ruleset renamed_stms = (renamed_set_stm, renamed_setglobal_stm, renamed_divide_stm, renamed_check_stm, renamed_read_stm, renamed_write_stm, renamed_zero_stm, renamed_if_stm, renamed_loop_stm, renamed_block_stm, renamed_break_stm, renamed_back_stm, renamed_call_stm, renamed_known_stm, renamed_return_stm)
+pub ruleset renamed_stms = (
+  renamed_set_stm,
+  renamed_setglobal_stm,
+  renamed_divide_stm,
+  renamed_check_stm,
+  renamed_read_stm,
+  renamed_write_stm,
+  renamed_zero_stm,
+  renamed_if_stm,
+  renamed_loop_stm,
+  renamed_block_stm,
+  renamed_break_stm,
+  renamed_back_stm,
+  renamed_call_stm,
+  renamed_known_stm,
+  renamed_return_stm,
+)

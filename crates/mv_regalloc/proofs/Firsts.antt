@@ -83,7 +83,8 @@ module _ (b : Body) (s : SpanTable) (h : AreSpansOf (all_marks b) b.temps s) (t 
   abbrev at_first : ℕ
   at_first = s.positions - slice_index s.begins t
 
-  one_more : (at : ℕ) (ys : List ℕ) → temps_of (beginning (all_marks b) at (t ∷ [])) ≡ ys → temps_of (beginning (all_marks b) at (range b.params (t + 1 - b.params))) ≡ temps_of (beginning (all_marks b) at (range b.params (t - b.params))) ++ ys
+  one_more : (at : ℕ) (ys : List ℕ) → temps_of (beginning (all_marks b) at (t ∷ [])) ≡ ys →
+      temps_of (beginning (all_marks b) at (range b.params (t + 1 - b.params))) ≡ temps_of (beginning (all_marks b) at (range b.params (t - b.params))) ++ ys
   one_more at ys e =
       let m : t + 1 - b.params ≡ suc (t - b.params) = omega (arith, low) in
       let f : b.params + (t - b.params) ≡ t = omega (arith, low) in
@@ -112,7 +113,8 @@ module _ (b : Body) (s : SpanTable) (h : AreSpansOf (all_marks b) b.temps s) (t 
   pub firsts_more : (lists : List (List ℕ)) → 0 < slice_index s.begins t → AreFirsts b t s.positions lists → AreFirsts b (t + 1) s.positions (slice_set lists at_first (slice_index_or lists at_first [] ++ t ∷ []))
   firsts_more lists z k = record { long = length-set lists at_first (slice_index_or lists at_first [] ++ t ∷ []) ∙ k.long; items = λ at l. by at l (cases_eq at at_first) }
     where
-      by : (at : ℕ) → at < s.positions → (at ≡ at_first) ⊎ (at ≡ at_first → ⊥) → slice_index_or (slice_set lists at_first (slice_index_or lists at_first [] ++ t ∷ [])) at [] ≡ temps_of (beginning (all_marks b) at (range b.params (t + 1 - b.params)))
+      by : (at : ℕ) → at < s.positions → (at ≡ at_first) ⊎ (at ≡ at_first → ⊥) →
+          slice_index_or (slice_set lists at_first (slice_index_or lists at_first [] ++ t ∷ [])) at [] ≡ temps_of (beginning (all_marks b) at (range b.params (t + 1 - b.params)))
       by at l (inl e) =
           let long = k.long in
           let p = h.positions t in

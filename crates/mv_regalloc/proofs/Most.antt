@@ -116,7 +116,8 @@ module _ (marks : ℕ → List Bool) (i : ℕ) where
       let e : a + suc n ≡ suc (a + n) = omega arith in
       ap below e ∙ ap (λ l. l ++ (a + n) ∷ []) (below_range a n) ∙ append_assoc (below a) (range a n) ((a + n) ∷ [])
 
-  pub whole_count : (long p n : ℕ) → ((t : ℕ) → marks_length (marks t) ≡ long) → ((t : ℕ) → t < p → any_of (marks t) ≡ true) → count_at i (map filled_marks (below (p + n))) ≡ over i (by_first marks (range p n) 0 long) + held i (given marks p)
+  pub whole_count : (long p n : ℕ) → ((t : ℕ) → marks_length (marks t) ≡ long) → ((t : ℕ) → t < p → any_of (marks t) ≡ true) →
+      count_at i (map filled_marks (below (p + n))) ≡ over i (by_first marks (range p n) 0 long) + held i (given marks p)
   whole_count long p n e h =
       let a = ap (λ l. count_at i (map filled_marks l)) (below_range p n) ∙ ap (count_at i) (map_append filled_marks (below p) (range p n)) ∙ count_both (map filled_marks (below p)) (map filled_marks (range p n)) in
       let b = given_count p h in
@@ -204,6 +205,8 @@ module _ (b : Body) (has : HasTemps b) where
   uses_most =
       let params_fit : used (given marks b.params) ≤ most_intervals b =
       (let x = given_used marks b.params in let y = held_params b.params (omega arith) in let z = count_is 0 in let w = bounded 0 in omega (arith, x, y, z, w)) in
-      let few = scan_used (most_intervals b) 0 (given marks b.params) (others b) (by_first_order marks (range b.params (b.temps - b.params)) 0 (positions b)) (begun_params b.params (omega arith)) params_fit (λ k. let z = count_is k in let w = bounded k in omega (arith, z, w)) in
+      let few = scan_used (most_intervals b) 0 (given marks b.params) (others b)
+      (by_first_order marks (range b.params (b.temps - b.params)) 0 (positions b)) (begun_params b.params (omega arith)) params_fit
+      (λ k. let z = count_is k in let w = bounded k in omega (arith, z, w)) in
       let many = greatest_within (positions b) counted (used (allotted b)) (λ i lt. let z = count_is i in let h = scan_held i (given marks b.params) (others b) in let u = held_used i (allotted b) scan_all_apart in omega (arith, z, h, u)) in
       omega (arith, few, many)

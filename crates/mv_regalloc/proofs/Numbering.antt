@@ -99,4 +99,6 @@ pub position_more : (marks : ℕ → List Bool) (done : List Placed) (ts : List 
 position_more marks done ts at =
     let e : at + 1 ≡ suc at = omega arith in
     let f : 0 + at ≡ at = omega arith in
-    sym (scan_append done (by_first marks ts 0 at) (beginning marks at ts)) ∙ ap (λ k. scan done (by_first marks ts 0 at ++ beginning marks k ts)) (sym f) ∙ ap (scan done) (sym (by_first_more marks ts 0 at)) ∙ ap (λ k. scan done (by_first marks ts 0 k)) (sym e)
+    sym (scan_append done (by_first marks ts 0 at) (beginning marks at ts)) ∙
+    ap (λ k. scan done (by_first marks ts 0 at ++ beginning marks k ts)) (sym f) ∙ ap (scan done) (sym (by_first_more marks ts 0 at)) ∙
+    ap (λ k. scan done (by_first marks ts 0 k)) (sym e)

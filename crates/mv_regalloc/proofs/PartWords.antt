@@ -281,7 +281,8 @@ module _ (parts : List Part) (number : ℕ) where
             subst (λ p. P p (word_of parts number q)) here (subst (λ w. P first w) (sym (ap (word_of parts number) z ∙ word_here parts number)) own)
         by (inr n) (inl k) =
             let r : 2 * (q / 2) + 1 ≡ q = omega (arith, k) in
-            subst (λ v. P (first + step * v) (word_of parts number v)) r (subst (λ p. P p (word_of parts number (2 * (q / 2) + 1))) (odd_place (q / 2)) (subst (λ w. P (first + step + step * 2 * (q / 2)) w) (sym (odd_word (q / 2))) (odd (q / 2))))
+            subst (λ v. P (first + step * v) (word_of parts number v)) r
+            (subst (λ p. P p (word_of parts number (2 * (q / 2) + 1))) (odd_place (q / 2)) (subst (λ w. P (first + step + step * 2 * (q / 2)) w) (sym (odd_word (q / 2))) (odd (q / 2))))
         by (inr n) (inr k) =
             let r : 2 * (q / 2 - 1) + 2 ≡ q = omega (arith, k, n) in
             subst (λ v. P (first + step * v) (word_of parts number v)) r

@@ -102,13 +102,17 @@ module _ (r : Sets) where
   live_setglobal g v = ap live_of (sym (rolls-SetGlobal g v)) ∙ ap (λ x. x.live r) (rows_roll (stm.SetGlobal g v)) ∙ ap (λ l. with_all_reads l (r.next)) (sym (own_setglobal g v))
 
   pub rows_setglobal : (g : ℕ) (v : Tree) → rows_of (at.SetGlobal g v) ≡ put_bit None true (live_of (at.SetGlobal g v)) ∷ []
-  rows_setglobal g v = ap rows_of (sym (rolls-SetGlobal g v)) ∙ ap (λ x. x.rows r) (rows_roll (stm.SetGlobal g v)) ∙ ap (λ l. put_bit None true l ∷ []) (ap (λ x. x.live r) (sym (rows_roll (stm.SetGlobal g v))) ∙ ap live_of (rolls-SetGlobal g v))
+  rows_setglobal g v =
+      ap rows_of (sym (rolls-SetGlobal g v)) ∙ ap (λ x. x.rows r) (rows_roll (stm.SetGlobal g v)) ∙
+      ap (λ l. put_bit None true l ∷ []) (ap (λ x. x.live r) (sym (rows_roll (stm.SetGlobal g v))) ∙ ap live_of (rolls-SetGlobal g v))
 
   pub live_divide : (t : ℕ) (o : ℕ) (a : Tree) (b : Tree) → live_of (at.Divide t o a b) ≡ with_all_reads (own_trees (at.Divide t o a b)) (put_bit (Some t) false r.next)
   live_divide t o a b = ap live_of (sym (rolls-Divide t o a b)) ∙ ap (λ x. x.live r) (rows_roll (stm.Divide t o a b)) ∙ ap (λ l. with_all_reads l (put_bit (Some t) false r.next)) (sym (own_divide t o a b))
 
   pub rows_divide : (t : ℕ) (o : ℕ) (a : Tree) (b : Tree) → rows_of (at.Divide t o a b) ≡ put_bit (Some t) true (live_of (at.Divide t o a b)) ∷ []
-  rows_divide t o a b = ap rows_of (sym (rolls-Divide t o a b)) ∙ ap (λ x. x.rows r) (rows_roll (stm.Divide t o a b)) ∙ ap (λ l. put_bit (Some t) true l ∷ []) (ap (λ x. x.live r) (sym (rows_roll (stm.Divide t o a b))) ∙ ap live_of (rolls-Divide t o a b))
+  rows_divide t o a b =
+      ap rows_of (sym (rolls-Divide t o a b)) ∙ ap (λ x. x.rows r) (rows_roll (stm.Divide t o a b)) ∙
+      ap (λ l. put_bit (Some t) true l ∷ []) (ap (λ x. x.live r) (sym (rows_roll (stm.Divide t o a b))) ∙ ap live_of (rolls-Divide t o a b))
 
   pub live_check : (a : Array) (i : Tree) → live_of (at.Check a i) ≡ with_all_reads (own_trees (at.Check a i)) (r.next)
   live_check a i = ap live_of (sym (rolls-Check a i)) ∙ ap (λ x. x.live r) (rows_roll (stm.Check a i)) ∙ ap (λ l. with_all_reads l (r.next)) (sym (own_check a i))
@@ -138,7 +142,10 @@ module _ (r : Sets) where
   live_if t a b = ap live_of (sym (rolls-If t a b)) ∙ ap (λ x. x.live r) (rows_roll (stm.If t a b)) ∙ ap (λ l. with_all_reads l (either_bits (live_before (map stm_rows a) r) (live_before (map stm_rows b) r))) (sym (own_if t a b))
 
   pub rows_if : (t : Tree) (a : List Stm) (b : List Stm) → rows_of (at.If t a b) ≡ live_of (at.If t a b) ∷ (rows_in_order (map stm_rows a) r ++ rows_in_order (map stm_rows b) r)
-  rows_if t a b = ap rows_of (sym (rolls-If t a b)) ∙ ap (λ x. x.rows r) (rows_roll (stm.If t a b)) ∙ ap (λ l. l ∷ (rows_in_order (map stm_rows a) r ++ rows_in_order (map stm_rows b) r)) (ap (λ x. x.live r) (sym (rows_roll (stm.If t a b))) ∙ ap live_of (rolls-If t a b))
+  rows_if t a b =
+      ap rows_of (sym (rolls-If t a b)) ∙ ap (λ x. x.rows r) (rows_roll (stm.If t a b)) ∙
+      ap (λ l. l ∷ (rows_in_order (map stm_rows a) r ++ rows_in_order (map stm_rows b) r))
+      (ap (λ x. x.live r) (sym (rows_roll (stm.If t a b))) ∙ ap live_of (rolls-If t a b))
 
   pub live_loop : (b : List Stm) → live_of (at.Loop b) ≡ live_before (map stm_rows b) (sets_inside r r.none r.none)
   live_loop b = ap live_of (sym (rolls-Loop b)) ∙ ap (λ x. x.live r) (rows_roll (stm.Loop b))
@@ -150,7 +157,10 @@ module _ (r : Sets) where
   live_block b = ap live_of (sym (rolls-Block b)) ∙ ap (λ x. x.live r) (rows_roll (stm.Block b))
 
   pub rows_block : (b : List Stm) → rows_of (at.Block b) ≡ live_of (at.Block b) ∷ rows_in_order (map stm_rows b) (sets_inside r r.next r.none)
-  rows_block b = ap rows_of (sym (rolls-Block b)) ∙ ap (λ x. x.rows r) (rows_roll (stm.Block b)) ∙ ap (λ l. l ∷ rows_in_order (map stm_rows b) (sets_inside r r.next r.none)) (ap (λ x. x.live r) (sym (rows_roll (stm.Block b))) ∙ ap live_of (rolls-Block b))
+  rows_block b =
+      ap rows_of (sym (rolls-Block b)) ∙ ap (λ x. x.rows r) (rows_roll (stm.Block b)) ∙
+      ap (λ l. l ∷ rows_in_order (map stm_rows b) (sets_inside r r.next r.none))
+      (ap (λ x. x.live r) (sym (rows_roll (stm.Block b))) ∙ ap live_of (rolls-Block b))
 
   pub live_break : (n : ℕ) → live_of (at.Break n) ≡ slice_index_or r.leaves n r.none
   live_break n = ap live_of (sym (rolls-Break n)) ∙ ap (λ x. x.live r) (rows_roll (stm.Break n))
@@ -168,13 +178,17 @@ module _ (r : Sets) where
   live_call u f args = ap live_of (sym (rolls-Call u f args)) ∙ ap (λ x. x.live r) (rows_roll (stm.Call u f args)) ∙ ap (λ l. with_all_reads l (put_bit u false r.next)) (sym (own_call u f args))
 
   pub rows_call : (u : Option ℕ) (f : Callee) (args : List Tree) → rows_of (at.Call u f args) ≡ put_bit u true (live_of (at.Call u f args)) ∷ []
-  rows_call u f args = ap rows_of (sym (rolls-Call u f args)) ∙ ap (λ x. x.rows r) (rows_roll (stm.Call u f args)) ∙ ap (λ l. put_bit u true l ∷ []) (ap (λ x. x.live r) (sym (rows_roll (stm.Call u f args))) ∙ ap live_of (rolls-Call u f args))
+  rows_call u f args =
+      ap rows_of (sym (rolls-Call u f args)) ∙ ap (λ x. x.rows r) (rows_roll (stm.Call u f args)) ∙
+      ap (λ l. put_bit u true l ∷ []) (ap (λ x. x.live r) (sym (rows_roll (stm.Call u f args))) ∙ ap live_of (rolls-Call u f args))
 
   pub live_known : (u : Option ℕ) (k : Known) (args : List Tree) → live_of (at.Known u k args) ≡ with_all_reads (own_trees (at.Known u k args)) (put_bit u false r.next)
   live_known u k args = ap live_of (sym (rolls-Known u k args)) ∙ ap (λ x. x.live r) (rows_roll (stm.Known u k args)) ∙ ap (λ l. with_all_reads l (put_bit u false r.next)) (sym (own_known u k args))
 
   pub rows_known : (u : Option ℕ) (k : Known) (args : List Tree) → rows_of (at.Known u k args) ≡ put_bit u true (live_of (at.Known u k args)) ∷ []
-  rows_known u k args = ap rows_of (sym (rolls-Known u k args)) ∙ ap (λ x. x.rows r) (rows_roll (stm.Known u k args)) ∙ ap (λ l. put_bit u true l ∷ []) (ap (λ x. x.live r) (sym (rows_roll (stm.Known u k args))) ∙ ap live_of (rolls-Known u k args))
+  rows_known u k args =
+      ap rows_of (sym (rolls-Known u k args)) ∙ ap (λ x. x.rows r) (rows_roll (stm.Known u k args)) ∙
+      ap (λ l. put_bit u true l ∷ []) (ap (λ x. x.live r) (sym (rows_roll (stm.Known u k args))) ∙ ap live_of (rolls-Known u k args))
 
   pub live_return : (v : Tree) → live_of (at.Return v) ≡ with_all_reads (own_trees (at.Return v)) (r.none)
   live_return v = ap live_of (sym (rolls-Return v)) ∙ ap (λ x. x.live r) (rows_roll (stm.Return v)) ∙ ap (λ l. with_all_reads l (r.none)) (sym (own_return v))
@@ -184,6 +198,40 @@ module _ (r : Sets) where
 
 pub ruleset live_stms = (live_set, live_setglobal, live_divide, live_check, live_read, live_write, live_zero, live_if, live_loop, live_block, live_break, live_back, live_call, live_known, live_return, own_zero, own_break, own_back)
 
-pub ruleset marked_stms = (live_set, live_setglobal, live_divide, live_check, live_read, live_write, live_zero, live_if, live_block, live_break, live_back, live_call, live_known, live_return, own_zero, own_if, own_break, own_back, rows_set, rows_setglobal, rows_divide, rows_check, rows_read, rows_write, rows_zero, rows_if, rows_loop, rows_block, rows_break, rows_back, rows_call, rows_known, rows_return)
+pub ruleset marked_stms = (
+  live_set,
+  live_setglobal,
+  live_divide,
+  live_check,
+  live_read,
+  live_write,
+  live_zero,
+  live_if,
+  live_block,
+  live_break,
+  live_back,
+  live_call,
+  live_known,
+  live_return,
+  own_zero,
+  own_if,
+  own_break,
+  own_back,
+  rows_set,
+  rows_setglobal,
+  rows_divide,
+  rows_check,
+  rows_read,
+  rows_write,
+  rows_zero,
+  rows_if,
+  rows_loop,
+  rows_block,
+  rows_break,
+  rows_back,
+  rows_call,
+  rows_known,
+  rows_return,
+)
 
 pub ruleset owned_stms = (own_set, own_setglobal, own_divide, own_check, own_read, own_write, own_zero, own_if, own_loop, own_block, own_break, own_back, own_call, own_known, own_return)

@@ -1,5 +1,6 @@
 -- The rows of a statement are as many as there are statements in it.
-use Rattle.std.proofs.Common.{arith, ◌≡◌, ℕ, suc, ◌+◌, List, [], ◌∷◌, ◌++◌, length, map, refl, sym, ap, ◌∙◌}
+use Rattle.std.proofs.Common.{◌≡◌, ℕ, suc, ◌+◌, List, [], ◌∷◌, length, map, refl, sym, ap, ◌∙◌}
+use Rattle.std.proofs.lemmas.List.{length-append}
 use Rattle.mv_ir.specs.declared.stm.Stm.{Stm}
 use Rattle.mv_ir.specs.declared.stm.Stm.TheOpen.{Stm-F}
 use Rattle.mv_ir.specs.declared.stm.Stm.TheOpen as stm
@@ -7,12 +8,8 @@ use Rattle.mv_ir.specs.declared.stm.Stm.TheFolds.{map-Stm}
 use Rattle.mv_ir.specs.Measures.{layer_size, stm_size, total}
 use Rattle.mv_ir.proofs.Induction.{Each, StmChildren, stm_ind, stms_ind}
 use Rattle.mv_ir.proofs.Rolls.{size_roll}
-use Rattle.mv_regalloc.specs.Rows.{Bits, Sets, Rows, sets_after, sets_inside, live_before, rows_in_order, loop_bits, layer_rows, stm_rows}
+use Rattle.mv_regalloc.specs.Rows.{Sets, Rows, sets_after, sets_inside, live_before, rows_in_order, loop_bits, layer_rows, stm_rows}
 use Rattle.mv_regalloc.proofs.RowsShow.{rows_roll}
-
-pub length_rows : (xs ys : List Bits) → length (xs ++ ys) ≡ length xs + length ys
-length_rows [] ys = omega arith
-length_rows (x ∷ xs) ys = let e = length_rows xs ys in omega (arith, e)
 
 abbrev IsAsLong : Stm → Type 0
 IsAsLong s = (r : Sets) → length ((stm_rows s).rows r) ≡ stm_size s
@@ -21,7 +18,7 @@ list_long : (b : List Stm) → Each IsAsLong b → (r : Sets) → length (rows_i
 list_long [] h r = refl
 list_long (s ∷ b) h r =
     let after = sets_after r (live_before (map stm_rows b) r) in
-    length_rows ((stm_rows s).rows after) (rows_in_order (map stm_rows b) r) ∙ ap (λ n. n + length (rows_in_order (map stm_rows b) r)) (h.0 after) ∙ ap (λ n. stm_size s + n) (list_long b h.1 r)
+    length-append ((stm_rows s).rows after) (rows_in_order (map stm_rows b) r) ∙ ap (λ n. n + length (rows_in_order (map stm_rows b) r)) (h.0 after) ∙ ap (λ n. stm_size s + n) (list_long b h.1 r)
 
 long_layer : (x : Stm-F Stm) → StmChildren IsAsLong x → (r : Sets) → length ((layer_rows (map-Stm Stm Rows stm_rows x)).rows r) ≡ layer_size (map-Stm Stm ℕ stm_size x)
 long_layer (stm.Set u v) h r = refl
@@ -32,7 +29,7 @@ long_layer (stm.Read u a i) h r = refl
 long_layer (stm.Write a i v) h r = refl
 long_layer (stm.Zero l) h r = refl
 long_layer (stm.If v x y) h r =
-    ap suc (length_rows (rows_in_order (map stm_rows x) r) (rows_in_order (map stm_rows y) r) ∙ ap (λ n. n + length (rows_in_order (map stm_rows y) r)) (list_long x h.0 r) ∙ ap (λ n. total (map stm_size x) + n) (list_long y h.1 r))
+    ap suc (length-append (rows_in_order (map stm_rows x) r) (rows_in_order (map stm_rows y) r) ∙ ap (λ n. n + length (rows_in_order (map stm_rows y) r)) (list_long x h.0 r) ∙ ap (λ n. total (map stm_size x) + n) (list_long y h.1 r))
 long_layer (stm.Loop b) h r = ap suc (list_long b h (sets_inside r (loop_bits (map stm_rows b) r) (loop_bits (map stm_rows b) r)))
 long_layer (stm.Block b) h r = ap suc (list_long b h (sets_inside r r.next r.none))
 long_layer (stm.Break n) h r = refl

@@ -11,7 +11,8 @@ use Rattle.mv_regalloc.specs.Intervals.{span, range, given, allotted, IsRenamed,
 use Rattle.mv_regalloc.specs.Tracked.{IsNumbered}
 use Rattle.mv_regalloc.specs.declared.number.Numbering.{Numbering}
 use Rattle.mv_regalloc.proofs.Apart.{numbers_apart, number_found}
-use Rattle.mv_regalloc.proofs.Ranges.{marked_any, marked_first, marked_last, first_below}
+use Rattle.mv_ir.proofs.Joining.{marked_any}
+use Rattle.mv_regalloc.proofs.Ranges.{marked_first, marked_last, first_below}
 use Rattle.mv_regalloc.proofs.Stands.{AreSpans, Stands, in_range, listed, by_first_spans, every_range, scan_stands, scan_stands_new, given_stands, number_used, given_number, scan_number}
 use Rattle.mv_regalloc.proofs.Most.{same_long, scan_all_apart, uses_most, enough_temps}
 use Rattle.mv_regalloc.proofs.RenamedKept.{rename_keeps}

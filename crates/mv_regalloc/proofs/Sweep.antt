@@ -23,7 +23,9 @@ module _ (marks : ℕ → List Bool) where
   beginning_append at [] us = refl
   beginning_append at (t ∷ ts) us = by (any_of (marks t) && eqb (first_from 0 (marks t)) at) (beginning_append at ts us)
     where
-      by : (c : Bool) → beginning marks at (ts ++ us) ≡ beginning marks at ts ++ beginning marks at us → cond c (span marks t ∷ beginning marks at (ts ++ us)) (beginning marks at (ts ++ us)) ≡ cond c (span marks t ∷ beginning marks at ts) (beginning marks at ts) ++ beginning marks at us
+      by : (c : Bool) → beginning marks at (ts ++ us) ≡ beginning marks at ts ++ beginning marks at us →
+          cond c (span marks t ∷ beginning marks at (ts ++ us)) (beginning marks at (ts ++ us)) ≡ cond c (span marks t ∷ beginning marks at ts)
+          (beginning marks at ts) ++ beginning marks at us
       by true e = ap (λ l. span marks t ∷ l) e
       by false e = e
 

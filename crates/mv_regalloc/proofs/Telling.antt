@@ -40,7 +40,9 @@ module _ (v : ℕ) (s s' s'' : Firsts) (h : AreTold v s s') where
     long = k.long ∙ h.long;
     values = record {
       long = k.values.long ∙ h.values.long;
-      items = λ t l. k.values.items t (next t l) ∙ ap (cond (word_bit s''.told t && not (word_bit s'.told t)) v) (h.values.items t l) ∙ by (word_bit s.told t) (word_bit s'.told t) (word_bit s''.told t) (slice_index s.values t) (h.kept t l) (k.kept t (next t l));
+      items =
+          λ t l. k.values.items t (next t l) ∙ ap (cond (word_bit s''.told t && not (word_bit s'.told t)) v) (h.values.items t l) ∙
+          by (word_bit s.told t) (word_bit s'.told t) (word_bit s''.told t) (slice_index s.values t) (h.kept t l) (k.kept t (next t l));
     };
     kept = λ t l b. k.kept t (next t l) (h.kept t l b);
   }
@@ -112,7 +114,9 @@ module _ (parts : List Part) (number first step v : ℕ) (s s1 s2 s3 : Firsts) (
   part_told = record {
     told = told_two v s s2 s3 (told_two v s s1 s2 own odd.told) even.told;
     all = λ q t l. at_each parts number first step (λ p w. t / 64 ≡ p → in_word w t ≡ true → word_bit s3.told t ≡ true)
-        (λ e k. even.told.kept t (omega (arith, even.told.values.long, l)) (odd.told.kept t (omega (arith, odd.told.values.long, even.told.values.long, l)) (own_told t (omega (arith, own.values.long, odd.told.values.long, even.told.values.long, l)) e k)))
+        (λ e k. even.told.kept t (omega (arith, even.told.values.long, l))
+        (odd.told.kept t (omega (arith, odd.told.values.long, even.told.values.long, l))
+        (own_told t (omega (arith, own.values.long, odd.told.values.long, even.told.values.long, l)) e k)))
         (λ q e k. even.told.kept t (omega (arith, even.told.values.long, l)) (odd.all q t (omega (arith, even.told.values.long, l)) e k))
         (λ q e k. even.all q t l e k) q;
     others = λ t l h.
@@ -132,7 +136,8 @@ call_told parts number v part at odd even s s1 s2 s3 e o w room long put bits x 
     part_told parts number place at.step v s s1 s2 s3 room (word_told v place part.word s s1 room long put bits)
     (subst (λ q. (t : ℕ) → t < length s.told * 64 → word_bit s1.told t ≡ ((eqb (t / 64) place && in_word q.word t) || word_bit s.told t)) e bits)
     (subst (λ n. IsPartTold parts n (place + at.step) (at.step * 2) v s1 s2) (ap (λ q. q.odd) e) (subst (λ n. IsPartTold parts part.odd n (at.step * 2) v s1 s2) o.0 (subst (λ n. IsPartTold parts part.odd odd.first n v s1 s2) o.1 x)))
-    (subst (λ n. IsPartTold parts n (place + at.step * 2) (at.step * 2) v s2 s3) (ap (λ q. q.even) e) (subst (λ n. IsPartTold parts part.even n (at.step * 2) v s2 s3) w.0 (subst (λ n. IsPartTold parts part.even even.first n v s2 s3) w.1 y)))
+    (subst (λ n. IsPartTold parts n (place + at.step * 2) (at.step * 2) v s2 s3) (ap (λ q. q.even) e)
+    (subst (λ n. IsPartTold parts part.even n (at.step * 2) v s2 s3) w.0 (subst (λ n. IsPartTold parts part.even even.first n v s2 s3) w.1 y)))
 
 pub part_same : (parts : List Part) (number first step v : ℕ) (s s' s'' : Firsts) → s''.values ≡ s'.values → s''.told ≡ s'.told → IsPartTold parts number first step v s s' → IsPartTold parts number first step v s s''
 part_same parts number first step v s s' s'' e f h = record {
@@ -231,10 +236,14 @@ module _ (parts : List Part) (number n : ℕ) (s s' : Firsts) (all rows : List B
     done = λ t l b. next_value parts number n s s' v h k.long t l ∙ done t l (mark_at (bits_at n parts number) t) (word_bit s.told t) refl refl (sym (next_told parts number n s s' v h k.long t l) ∙ b);
     none = λ t l b.
         let p = sym (next_told parts number n s s' v h k.long t l) ∙ b in
-        next_value parts number n s s' v h k.long t l ∙ ap (λ c. cond (c && not (word_bit s.told t)) v (slice_index s.values t)) (neither (mark_at (bits_at n parts number) t) (word_bit s.told t) p).0 ∙ k.none t l (neither (mark_at (bits_at n parts number) t) (word_bit s.told t) p).1;
+        next_value parts number n s s' v h k.long t l ∙
+        ap (λ c. cond (c && not (word_bit s.told t)) v (slice_index s.values t)) (neither (mark_at (bits_at n parts number) t) (word_bit s.told t) p).0 ∙
+        k.none t l (neither (mark_at (bits_at n parts number) t) (word_bit s.told t) p).1;
     left = λ t l b.
         let p = sym (next_told parts number n s s' v h k.long t l) ∙ b in
-        k.left t l (neither (mark_at (bits_at n parts number) t) (word_bit s.told t) p).1 ∙ ap (λ c. cond c (suc (marks_length (column t rows))) (from_first (column t rows))) (neither (mark_at (bits_at n parts number) t) (word_bit s.told t) p).0;
+        k.left t l (neither (mark_at (bits_at n parts number) t) (word_bit s.told t) p).1 ∙
+        ap (λ c. cond c (suc (marks_length (column t rows))) (from_first (column t rows)))
+        (neither (mark_at (bits_at n parts number) t) (word_bit s.told t) p).0;
   }
     where
       neither : (a b : Bool) → (a || b) ≡ false → (a ≡ false) × (b ≡ false)
@@ -307,7 +316,10 @@ module _ (parts : List Part) (n : ℕ) (rows : List ℕ) where
         let rest = length-drop (length rows - i) all in
         let here : length rows - 1 - (length rows - (i + 1)) ≡ i = omega (arith, l) in
         let next : length rows - (i + 1) + 1 ≡ length rows - i = omega (arith, l) in
-        subst (λ x. EndsSoFar x n s') (sym (row_next (length rows - (i + 1)) (omega (arith, l)) ∙ ap (λ j. bits_at n parts (slice_index rows j) ∷ drop (length rows - (i + 1) + 1) all) here ∙ ap (λ j. bits_at n parts (slice_index rows i) ∷ drop j all) next))
+        subst (λ x. EndsSoFar x n s')
+        (sym (row_next (length rows - (i + 1)) (omega (arith, l)) ∙
+        ap (λ j. bits_at n parts (slice_index rows j) ∷ drop (length rows - (i + 1) + 1) all) here ∙
+        ap (λ j. bits_at n parts (slice_index rows i) ∷ drop j all) next))
         (ends_more parts (slice_index rows i) n s s' (drop (length rows - i) all) i (omega (arith, rest, long, l)) h k)
 
     pub begins_next : IsRowTold (λ t. in_word (word_of parts (slice_index rows (length rows - 1 - i)) (t / 64)) t) (length rows - 1 - i + 1) s s' → BeginsSoFar all (drop i all) n s → BeginsSoFar all (drop (i + 1) all) n s'

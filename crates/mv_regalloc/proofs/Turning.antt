@@ -68,7 +68,8 @@ module _ (place changed bit from temp count : ℕ) (low : bit < 64) (f : from �
       by (inr ne) = let d : true ≡ false = sym s ∙ ne_eqb t temp ne in absurd cc
 
   -- a value for one more of the temporaries of a word
-  module _ (word : ℕ) (within : (t : ℕ) → in_word changed t ≡ true → in_word word t ≡ true) (set : (t : ℕ) → t % 64 ≡ bit → in_word changed t ≡ true) (changed' : ℕ) (less : (t : ℕ) → in_word changed' t ≡ cond (eqb (t % 64) bit) false (in_word changed t)) where
+  module _ (word : ℕ) (within : (t : ℕ) → in_word changed t ≡ true → in_word word t ≡ true) (set : (t : ℕ) → t % 64 ≡ bit → in_word changed t ≡ true)
+      (changed' : ℕ) (less : (t : ℕ) → in_word changed' t ≡ cond (eqb (t % 64) bit) false (in_word changed t)) where
     pub word_within : (t : ℕ) → in_word changed' t ≡ true → in_word word t ≡ true
     word_within t h = by (eqb (t % 64) bit) (sym (less t) ∙ h)
       where

@@ -68,7 +68,7 @@ fn push_pin(
     }
 }
 
-// The temporary whose register the first pin has.
+/// The temporary whose register the first pin has.
 pub(crate) fn first_pin(keeping: Keeping, temps: u32) -> u32
     ensures { result ≡ first_pin keeping temps }
 {

@@ -1,5 +1,5 @@
 -- The call sites of a function are its direct calls, and its calls through pointer switches counted twice.
-use Rattle.std.proofs.Common.{◌≡◌, ℕ, ◌+◌, ◌*◌, ◌≤◌, List, [], ◌∷◌, ◌++◌, map, option_to_list, refl, arith}
+use Rattle.std.proofs.Common.{◌≡◌, ℕ, ◌+◌, ◌*◌, List, [], ◌∷◌, ◌++◌, map, option_to_list, refl, arith}
 use Rattle.std.specs.Prelude.{sum}
 use Rattle.std.specs.List.{AllByRecursion}
 use Rattle.mv_ast.specs.declared.program.Program.{Program}
@@ -81,6 +81,3 @@ module _ (whole once twice : Expr → ℕ) (are_both : (e : Expr) → whole e �
 
 pub sites_are : (p : Program) (g : Function) → call_sites p g ≡ calls p g + 2 * calls_through (is_pointer p) g
 sites_are p g = of_bodies (expr_sites p) (expr_calls p) (expr_calls_through (is_pointer p)) (λ e. refl) g.body
-
-pub calls_are_sites : (p : Program) (g : Function) → calls p g ≤ call_sites p g
-calls_are_sites p g = omega (arith, sites_are p g)

@@ -97,10 +97,15 @@ scoped_at x = fold-roll-Stmt Scoped (Scope → Bool) scoped_layer arm_scoped_lay
 declared_at : (scope : Scope) (x : Expr-F Form Target Expr) → names_declared scope (roll-Expr x) ≡ form_names_declared scope x.what
 declared_at scope x = fold-roll-Expr Bool Bool Bool form_in (target_in scope) layer_in x
 
-form_declared_at : (scope : Scope) (x : Form-F Form Target Expr) → form_names_declared scope (roll-Form x) ≡ form_in (map-Form Form Target Expr Bool Bool Bool (form_names_declared scope) (target_names_declared scope) (names_declared scope) x)
+form_declared_at : (scope : Scope) (x : Form-F Form Target Expr) →
+    form_names_declared scope (roll-Form x) ≡
+    form_in (map-Form Form Target Expr Bool Bool Bool (form_names_declared scope) (target_names_declared scope) (names_declared scope) x)
 form_declared_at scope x = fold-roll-Form Bool Bool Bool form_in (target_in scope) layer_in x
 
-target_declared_at : (scope : Scope) (x : Target-F Form Target Expr) → target_names_declared scope (roll-Target x) ≡ target_in scope (map-Target Form Target Expr Bool Bool Bool (form_names_declared scope) (target_names_declared scope) (names_declared scope) x)
+target_declared_at : (scope : Scope) (x : Target-F Form Target Expr) →
+    target_names_declared scope (roll-Target x) ≡
+    target_in scope
+    (map-Target Form Target Expr Bool Bool Bool (form_names_declared scope) (target_names_declared scope) (names_declared scope) x)
 target_declared_at scope x = fold-roll-Target Bool Bool Bool form_in (target_in scope) layer_in x
 
 module _ (n locals : ℕ) (sizes : ℕ → Option ℕ) (free : ℕ → Bool) where
@@ -109,12 +114,16 @@ module _ (n locals : ℕ) (sizes : ℕ → Option ℕ) (free : ℕ → Bool) whe
 
   form_named_at : (x : Form-F Form Target Expr) (t : CType) →
       form_is_well_named program n locals sizes free (roll-Form x) t ≡
-      names_form program n locals sizes free (map-Form Form Target Expr (CType → Bool) Bool Bool (form_is_well_named program n locals sizes free) (target_is_well_named program n locals sizes free) (is_well_named program n locals sizes free) x) t
+      names_form program n locals sizes free
+      (map-Form Form Target Expr (CType → Bool) Bool Bool (form_is_well_named program n locals sizes free)
+      (target_is_well_named program n locals sizes free) (is_well_named program n locals sizes free) x) t
   form_named_at x t = ap (λ (k : CType → Bool). k t) (fold-roll-Form (CType → Bool) Bool Bool (names_form program n locals sizes free) (names_target program n locals sizes free) (names_layer program n locals sizes free) x)
 
   target_named_at : (x : Target-F Form Target Expr) →
       target_is_well_named program n locals sizes free (roll-Target x) ≡
-      names_target program n locals sizes free (map-Target Form Target Expr (CType → Bool) Bool Bool (form_is_well_named program n locals sizes free) (target_is_well_named program n locals sizes free) (is_well_named program n locals sizes free) x)
+      names_target program n locals sizes free
+      (map-Target Form Target Expr (CType → Bool) Bool Bool (form_is_well_named program n locals sizes free)
+      (target_is_well_named program n locals sizes free) (is_well_named program n locals sizes free) x)
   target_named_at x = fold-roll-Target (CType → Bool) Bool Bool (names_form program n locals sizes free) (names_target program n locals sizes free) (names_layer program n locals sizes free) x
 
 module _ (n locals : ℕ) (sizes : ℕ → Option ℕ) where

@@ -1,7 +1,7 @@
 //! What a call of `run_harts` comes to.
 
 ghost use Rattle.std.specs.Prelude.{◌≡◌, ◌<◌, ◌^◌, All, IfOk, IsTrue, Some, vec_len};
-ghost use Rattle.mv_machine.specs.Actions.{fits};
+ghost use Rattle.mv_machine.specs.Actions.{fits_rows};
 ghost use Rattle.mv_image.specs.Faults.{Rules};
 ghost use Rattle.mv_harts_meant.specs.Runnable.{IsRunnable};
 ghost use Rattle.mv_harts.specs.HartsRan.{TellsBytes};
@@ -9,6 +9,7 @@ ghost use Rattle.mv_harts.specs.HartsRan.{TellsBytes};
 use crate::program::{ROOM, sink_of};
 use crate::row::Row;
 use crate::text::text_of;
+use mv_actions::{ActionsError, actions_of_image};
 use mv_bindings::action::Action;
 use mv_build::{BuildError, Built, build};
 use mv_command::Item;
@@ -17,7 +18,6 @@ use mv_image::Image;
 use mv_io::{MemSink, MemSource};
 use mv_num::list::List;
 use mv_num::text::Text;
-use mv_operator::{ActionsError, actions_of_image};
 use mv_probe::{FetchOracle, Fresh, Oldest, Table};
 use std::alloc::{AllocError, Global};
 use std::mem;
@@ -90,7 +90,7 @@ fn schedule_of(alloc: Global, digits: &str, count: usize) -> Result<Vec<u8>, All
 
 // The operator's actions by `SKIPS:SWITCH=VALUE`; none where that isn't said or doesn't fit.
 fn actions_of(alloc: Global, image: &Image, said: &str) -> Result<Vec<Action>, AllocError>
-    ensures { IfOk result (λ actions. All (λ action. IsTrue (fits image.now.switches action)) actions.items) }
+    ensures { IfOk result (λ actions. All (λ action. IsTrue (fits_rows image.now.switches action)) actions.items) }
 {
     let Some((skips, flip)) = said.split_once(':') else {
         return Ok(Vec::new(alloc));

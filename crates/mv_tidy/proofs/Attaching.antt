@@ -1,19 +1,16 @@
 -- A choice is put behind some code as `Attached` says.
-use Rattle.std.proofs.Common.{arith, ◌≡◌, ℕ, ◌+◌, ◌<◌, Bool, true, false, not, cond, eqb, List, [], ◌∷◌, ◌++◌, Option, Some, None, IfSome, option_to_list, sym, ◌∙◌, ap, subst}
+use Rattle.std.proofs.Common.{arith, ◌≡◌, ℕ, ◌+◌, ◌<◌, Bool, true, false, not, cond, eqb, List, [], ◌∷◌, ◌++◌, Option, Some, IfSome, option_to_list, sym, ◌∙◌, ap, subst}
 use Rattle.std.proofs.lemmas.Option.{IfSome_then}
-use Rattle.mv_ir.specs.declared.tree.Tree.{Tree, out-Tree}
+use Rattle.mv_ir.specs.declared.tree.Tree.{Tree}
 use Rattle.mv_ir.specs.declared.tree.Tree as tr
-use Rattle.mv_ir.specs.declared.tree.Tree.TheOpen.{Tree-F}
-use Rattle.mv_ir.specs.declared.tree.Tree.TheOpen as tree
 use Rattle.mv_ir.specs.declared.tree.Tree.TheVariants.{rolls-Temp, rolls-Unary, rolls-Binary}
-use Rattle.mv_ir.specs.declared.tree.Tree.TheViews.{roll-Tree, roll-out-Tree}
 use Rattle.mv_ir.specs.declared.stm.Stm.{Stm}
 use Rattle.mv_ir.specs.Operators as operator
 use Rattle.mv_ir.specs.Measures.{statements}
 use Rattle.mv_ir.specs.Rolled.{number, temp, unary, binary, set, choose}
 use Rattle.mv_fold.specs.Simple.{constant}
-use Rattle.mv_fold.proofs.Within.{amount_append}
-use Rattle.mv_fold.proofs.SimpleKept.{constant_roll}
+use Rattle.mv_fold.proofs.FoldedWithin.{amount_choice}
+use Rattle.mv_plain.proofs.PlainTrees.{constant_is}
 use Rattle.mv_tidy.specs.Choosing.{taken, sides, Attached, apart, denied, unequal, equal, pushed, jumped}
 use Rattle.mv_tidy.specs.Attaching as asks
 use Rattle.mv_tidy.specs.Attaching.{Asks, IsMerge, IsMergeOf, HasParts, framed, IsStep}
@@ -24,27 +21,9 @@ use Rattle.mv_tidy.specs.declared.attach.Parts.{Parts}
 use Rattle.mv_tidy.specs.declared.attach.Frame.{Frame}
 use Rattle.mv_tidy.specs.declared.attach.Step.{Step}
 use Rattle.mv_tidy.specs.declared.attach.Step.TheVariants as step
-use Rattle.mv_tidy.proofs.ChosenWithin.{amount_choice, amount_set}
+use Rattle.mv_tidy.proofs.Walked.{statements_append}
 
 -- ---- conditions
-
-some_is : (m n : ℕ) → Some m ≡ Some n → m ≡ n
-some_is m n e = cc
-
-pub number_is : (t : Tree) (n : ℕ) → constant t ≡ Some n → t ≡ number n
-number_is t n = subst (λ u. constant u ≡ Some n → u ≡ number n) (roll-out-Tree t) (by (out-Tree t))
-  where
-    no : (x : Tree-F Tree) → constant (roll-Tree x) ≡ None → constant (roll-Tree x) ≡ Some n → roll-Tree x ≡ number n
-    no x f e = absurd (cc)
-
-    by : (x : Tree-F Tree) → constant (roll-Tree x) ≡ Some n → roll-Tree x ≡ number n
-    by (tree.Number m) e = ap number (some_is m n (sym (constant_roll (tree.Number m)) ∙ e))
-    by (tree.Temp m) e = no (tree.Temp m) (constant_roll (tree.Temp m)) e
-    by (tree.Global m) e = no (tree.Global m) (constant_roll (tree.Global m)) e
-    by (tree.Function m) e = no (tree.Function m) (constant_roll (tree.Function m)) e
-    by (tree.Unary o a) e = no (tree.Unary o a) (constant_roll (tree.Unary o a)) e
-    by (tree.Binary o a b) e = no (tree.Binary o a b) (constant_roll (tree.Binary o a b)) e
-    by (tree.Narrow k a) e = no (tree.Narrow k a) (constant_roll (tree.Narrow k a)) e
 
 pub asks_temp : (t : ℕ) (k : Tree) → k ≡ tr.Temp t → Asks t false k
 asks_temp t k is = subst (Asks t false) (rolls-Temp t ∙ sym is) asks.itself
@@ -107,18 +86,12 @@ stays_temp gone first given t x y made same e =
 pub merge_is : (r : Option Merge) (v : Tree) (n : ℕ) (zero : Bool) (x y : List Stm) → constant v ≡ Some n → eqb n 0 ≡ zero →
     IfSome r (IsMergeOf zero (cond zero y x) (cond zero x y)) → IfSome r (IsMerge v x y)
 merge_is r v n zero x y is e h =
-    IfSome_then r h (λ m k. (n, number_is v n is, subst (λ z. IsMergeOf z (cond z y x) (cond z x y) m) (sym e) k))
+    IfSome_then r h (λ m k. (n, constant_is v n is, subst (λ z. IsMergeOf z (cond z y x) (cond z x y) m) (sym e) k))
 
 -- ---- the side that a choice goes to
 
-pub count_append : (xs ys : List Stm) → statements (xs ++ ys) ≡ statements xs + statements ys
-count_append xs ys = ap (λ m. m.statements) (amount_append xs ys)
-
 count_choice : (c : Tree) (a b : List Stm) → statements (choose c a b ∷ []) ≡ 1 + (statements a + statements b)
 count_choice c a b = ap (λ m. m.statements) (amount_choice c a b)
-
-count_set : (t : ℕ) (e : Tree) → statements (set t e ∷ []) ≡ 1
-count_set t e = ap (λ m. m.statements) (amount_set t e)
 
 in_choice : (turned : Bool) (c : Tree) (a b : List Stm) → statements a < statements (sides turned c a b ∷ [])
 in_choice true c a b = omega (arith, count_choice c b a)
@@ -129,7 +102,7 @@ smaller code t p v is =
     let a = p.a ++ set t p.value ∷ [] in
     let b = p.b ++ set t v ∷ [] in
     let s = sides p.turned p.test a b ∷ [] in
-    omega (arith, ap statements is, count_append p.first s, in_choice p.turned p.test a b, count_append p.a (set t p.value ∷ []))
+    omega (arith, ap statements is, statements_append p.first s, in_choice p.turned p.test a b, statements_append p.a (set t p.value ∷ []))
 
 module _ (gone : ℕ → Type 0) (code : List Stm) (t : ℕ) (p : Parts) (v : Tree) (x y b rest : List Stm) (g : gone t) (is : HasParts code t p v) where
   abbrev frame : Frame

@@ -22,16 +22,14 @@ use Rattle.mv_regalloc.proofs.RowEquations.{live_block, live_if, live_loop, own_
 use Rattle.mv_regalloc.proofs.RowsShow.{code_shows, seen_nowhere}
 use Rattle.mv_regalloc.proofs.BodySpans.{clear_at}
 use Rattle.mv_regalloc.proofs.BitLists.{either_or}
-use Rattle.mv_fold.proofs.Thinner.{FitsAround}
-use Rattle.mv_fold.proofs.FoldedThinner.{every}
 use Rattle.mv_tidy.specs.Tidying.{lives, before, in_loop, in_block}
 use Rattle.mv_tidy.specs.Choosing.{taken, sides, Attached, apart, denied, unequal, equal, pushed, jumped, IsUnread, Chosen, ChosenIn}
 use Rattle.mv_tidy.specs.Choosing as chosen
-use Rattle.mv_tidy.specs.ChoosingWalk.{passed, passed_within, either_before, sides_row, layer_sides, IsPut, stands, taken_in, AreChosen, HasChosen, IsUnreadFirst, IsChosenFrom, IsChosenBehind}
-use Rattle.mv_tidy.specs.Walking.{IsGone, IsSeen, turning}
-use Rattle.mv_tidy.proofs.Attaching.{count_append}
+use Rattle.mv_tidy.specs.ChoosingWalk.{passed_within, either_before, sides_row, layer_sides, IsPut, stands, taken_in, AreChosen, HasChosen, IsUnreadFirst, IsChosenFrom, IsChosenBehind}
+use Rattle.mv_tidy.specs.Walking.{IsGone, IsSeen, turning, passed}
+use Rattle.mv_tidy.proofs.Thinning.{fits_itself}
 use Rattle.mv_tidy.proofs.ChosenThin.{chosen_thin}
-use Rattle.mv_tidy.proofs.Walked.{live_seen, seen_before, seen_in_loop, seen_in_block}
+use Rattle.mv_tidy.proofs.Walked.{statements_append, live_seen, seen_before, seen_in_loop, seen_in_block}
 
 -- ---- choices, by their parts
 
@@ -194,12 +192,9 @@ module _ (r : ℕ → Around) (t : ℕ) where
   live_numbered a b code =
       live_choice (number 0) a b code ∙ ap (λ q. q || (lives (before r code) a t || lives (before r code) b t)) (reads_temp_roll t (tree.Number 0))
 
-own_fits : (t : ℕ) (r : Around) → FitsAround every t r r
-own_fits t r = record { next = λ e. (e, refl); leaves = λ n e. (e, refl); restarts = λ n e. (e, refl) }
-
 module _ (temps : ℕ) (r : ℕ → Around) (t : ℕ) where
   chosen_dead : (code made : List Stm) → Chosen temps r code made → lives r code t ≡ false → lives r made t ≡ false
-  chosen_dead code made h = not_live (lives r made t) (lives r code t) (chosen_thin temps t r code made h (r t) (own_fits t (r t)))
+  chosen_dead code made h = not_live (lives r made t) (lives r code t) (chosen_thin temps t r code made h (r t) (fits_itself t (r t)))
 
   -- of two choices that are the same but for what they ask
   numbered_dead : (a b code a' b' made : List Stm) → Chosen temps r (choose (number 0) a b ∷ code) (choose (number 0) a' b' ∷ made) →
@@ -337,7 +332,7 @@ pub last_less : (left left' : List Stm) (last : Option Stm) (s : Stm) (code behi
     code ≡ left ++ behind → stm_size s ≤ statements code
 last_less left left' last s code behind popped is whole =
     let parts : code ≡ (left' ++ s ∷ []) ++ behind = whole ∙ ap (λ l. l ++ behind) (popped ∙ ap (λ o. left' ++ option_to_list o) is) in
-    omega (arith, ap statements parts, count_append (left' ++ s ∷ []) behind, count_append left' (s ∷ []))
+    omega (arith, ap statements parts, statements_append (left' ++ s ∷ []) behind, statements_append left' (s ∷ []))
 
 pub if_size : (t : Tree) (a b : List Stm) → stm_size (at.If t a b) ≡ suc (statements a + statements b)
 if_size t a b = ap stm_size (sym (rolls-If t a b)) ∙ size_roll (stm.If t a b)

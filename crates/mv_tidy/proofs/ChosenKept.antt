@@ -1,6 +1,7 @@
 -- Choices that are put together keep the meaning of code, at no greater cost.
 use Rattle.std.proofs.Common.{arith, ◌≡◌, ℕ, ◌+◌, ◌*◌, ◌≤◌, Bool, true, false, cond, not, eqb, List, [], ◌∷◌, ◌++◌, length, map, refl, sym, ◌∙◌, ap, subst}
 use Rattle.std.specs.Prelude.{slice_set}
+use Rattle.std.proofs.Math.Bool.{not-not}
 use Rattle.std.proofs.lemmas.List.{length-set, get_or-set_other}
 use Rattle.std.proofs.lemmas.Grind.{get_or-set_at}
 use Rattle.mv_num.specs.Words.{as_word}
@@ -79,10 +80,6 @@ differs_value a b = refl
 word_is_zero : (b : Bool) → eqb (as_word b) 0 ≡ not b
 word_is_zero true = refl
 word_is_zero false = refl
-
-not_not : (b : Bool) → not (not b) ≡ b
-not_not true = refl
-not_not false = refl
 
 module _ (temps : ℕ) (setting : Setting) (frame : Frame) where
   abbrev A : (ℕ → Bool) → Rel
@@ -176,7 +173,7 @@ module _ (temps : ℕ) (setting : Setting) (frame : Frame) where
   differs_zero k s =
       ap (λ (f : Value). eqb (f s.temps s.world.globals) 0) (value_roll setting.numbers frame.bound (tree.Binary operator.not_equal k (number 0))) ∙
       ap (λ v. eqb v 0) (differs_value (of k s) (of (number 0) s)) ∙ word_is_zero (not (eqb (of k s) (of (number 0) s))) ∙
-      not_not (eqb (of k s) (of (number 0) s)) ∙ ap (λ z. eqb (of k s) z) (number_value 0 s)
+      not-not (eqb (of k s) (of (number 0) s)) ∙ ap (λ z. eqb (of k s) z) (number_value 0 s)
 
   keep_denies : (r : ℕ → Around) (k : Tree) (x y : List Stm) → Keeps r (choose (unary operator.logical_not k) x y ∷ []) (choose k y x ∷ [])
   keep_denies r k x y = exactly r (choose (unary operator.logical_not k) x y ∷ []) (choose k y x ∷ [])
@@ -325,9 +322,6 @@ module _ (temps : ℕ) (setting : Setting) (frame : Frame) where
 
   pub code_keeps : (r : ℕ → Around) (code result : List Stm) → Chosen temps r code result → Keeps r code result
   code_keeps = steps_is temps Keeps keeps_stepwise
-
-  pub chosen_related : (r : ℕ → Around) (code result : List Stm) → Chosen temps r code result → MeaningRel (A (lives r code)) (P r) (C code) (C result)
-  chosen_related r code result h = full r code result (code_keeps r code result h)
 
 -- ---- bodies
 

@@ -9,17 +9,18 @@ use Rattle.mv_ir.specs.declared.stm.Stm.{Stm}
 use Rattle.mv_ir.specs.declared.stm.Stm.TheOpen as stm
 use Rattle.mv_ir.specs.declared.body.Body.{Body}
 use Rattle.mv_ir.specs.Operators as operator
-use Rattle.mv_ir.specs.Live.{reads_temp, Around, Flow, with_after, around_block, around_loop, live_in_order, marks_in_order, live_at_loop, flow, nowhere, live_at_start, all_marks, IsWhole, HasTemps}
+use Rattle.mv_ir.specs.Live.{reads_temp, Around, Flow, with_after, around_block, around_loop, live_in_order, marks_in_order, live_at_loop, flow, nowhere, live_at_start, IsWhole, HasTemps}
 use Rattle.mv_ir.specs.Rolled.{number, temp, unary, binary, set, choose, repeat, enclosed}
 use Rattle.mv_ir.proofs.Rolls.{flow_roll, reads_temp_roll}
 use Rattle.mv_ir.proofs.Keeping.{map_append}
+use Rattle.mv_ir.proofs.Living.{settled}
 use Rattle.mv_ir.proofs.Joining.{live_append, marks_append, any_append}
-use Rattle.mv_fold.proofs.Thinner.{FitsAround, nowhere_fits}
+use Rattle.mv_fold.proofs.Thinner.{or_both, FitsAround, nowhere_fits}
 use Rattle.mv_fold.proofs.FoldedThinner.{every}
 use Rattle.mv_tidy.specs.Tidying.{lives}
 use Rattle.mv_tidy.specs.Choosing.{is_jump, taken, IsUnread, Chosen}
-use Rattle.mv_fold.proofs.Marks.{any_marked, marked_any, any_left, any_right}
-use Rattle.mv_tidy.proofs.Thinning.{Fits, live_in, marks_in, fits_after, fits_loop, fits_block, same_thin, or_both, settled}
+use Rattle.mv_fold.proofs.Marks.{any_left, any_right}
+use Rattle.mv_tidy.proofs.Thinning.{Fits, live_in, marks_in, fits_after, fits_loop, fits_block, same_thin, fits_itself, still_whole, still_temps}
 use Rattle.mv_tidy.proofs.ChosenSteps.{IsStepwise, steps_is, live_at_jump, by_jump}
 
 either : {a b c : Bool} → (a ≡ true → c ≡ true) → (b ≡ true → c ≡ true) → (a || b) ≡ true → c ≡ true
@@ -46,7 +47,7 @@ module _ (temps u : ℕ) where
     pub marks : (r' : Around) → F r r' → marked ys r' ≡ true → marked xs r ≡ true
 
   own : (r : Around) → F r r
-  own r = record { next = λ e. (e, refl); leaves = λ n e. (e, refl); restarts = λ n e. (e, refl) }
+  own = fits_itself u
 
   -- ---- one after the other
 
@@ -61,7 +62,7 @@ module _ (temps u : ℕ) where
   thin_both r xs xs' ys ys' h k = record {
     live = λ r' f e. live_both xs ys r ∙ h.live (with_after r' (live ys' r')) (further r' f) (sym (live_both xs' ys' r') ∙ e);
     marks = λ r' f e. marked_both xs ys r ∙
-        or_both temps u (marked xs (with_after r (live ys r))) (marked ys r) (marked xs' (with_after r' (live ys' r'))) (marked ys' r')
+        or_both (marked xs (with_after r (live ys r))) (marked ys r) (marked xs' (with_after r' (live ys' r'))) (marked ys' r')
         (h.marks (with_after r' (live ys' r')) (further r' f)) (k.marks r' f) (sym (marked_both xs' ys' r') ∙ e);
   }
     where
@@ -298,11 +299,11 @@ module _ (temps u : ℕ) where
     thin_loop h = record {
       live = λ r' f e. live_repeat b r ∙ start r' f (sym (live_repeat b' r') ∙ e);
       marks = λ r' f e. marked_repeat b r ∙
-          or_both temps u _ _ _ _ (start r' f) (h.marks _ (fits_loop temps u r r' _ _ f (start r' f))) (sym (marked_repeat b' r') ∙ e);
+          or_both _ _ _ _ (start r' f) (h.marks _ (fits_loop temps u r r' _ _ f (start r' f))) (sym (marked_repeat b' r') ∙ e);
     }
       where
         start : (r' : Around) → F r r' → live_at_loop (map (flow u) b') r' ≡ true → live_at_loop (map (flow u) b) r ≡ true
-        start r' f e = settled temps u (λ c. live b (around_loop r c))
+        start r' f e = settled (λ c. live b (around_loop r c))
             (h.live (around_loop r' false) (fits_loop temps u r r' _ false f (λ v. from_falsity v)) e)
 
     live_enclosed : (c : List Stm) (r' : Around) → live (enclosed c ∷ []) r' ≡ live c (around_block r')
@@ -315,7 +316,7 @@ module _ (temps u : ℕ) where
     thin_enclosed h = record {
       live = λ r' f e. live_enclosed b r ∙ h.live (around_block r') (fits_block temps u r r' f) (sym (live_enclosed b' r') ∙ e);
       marks = λ r' f e. marked_enclosed b r ∙
-          or_both temps u _ _ _ _ (h.live (around_block r') (fits_block temps u r r' f)) (h.marks (around_block r') (fits_block temps u r r' f))
+          or_both _ _ _ _ (h.live (around_block r') (fits_block temps u r r' f)) (h.marks (around_block r') (fits_block temps u r r' f))
           (sym (marked_enclosed b' r') ∙ e);
     }
 
@@ -356,11 +357,8 @@ module _ (b : Body) (code : List Stm) (k : Chosen b.temps (λ t. nowhere) b.code
   start : (t : ℕ) → live_at_start t code ≡ true → live_at_start t b.code ≡ true
   start t = (thins t).live nowhere (nowhere_fits every t)
 
-  all : (t : ℕ) → any_of (all_marks (record b { code = code }) t) ≡ true → any_of (all_marks b t) ≡ true
-  all t = or_both b.temps t _ _ _ _ (or_both b.temps t _ _ _ _ (start t) (λ e. e)) ((thins t).marks nowhere (nowhere_fits every t))
-
   pub chosen_whole : IsWhole b → IsWhole (record b { code = code })
-  chosen_whole w t e = w t (start t e)
+  chosen_whole = still_whole b code start
 
   pub chosen_temps : HasTemps b → HasTemps (record b { code = code })
-  chosen_temps w i t e = let found = any_marked (all_marks b t) (all t (marked_any (all_marks (record b { code = code }) t) i e)) in w found.0 t found.1
+  chosen_temps = still_temps b code start (λ t. (thins t).marks nowhere (nowhere_fits every t))

@@ -1,10 +1,10 @@
 -- Choices that are put together make no count greater, and keep bodies well formed.
-use Rattle.std.proofs.Common.{arith, ◌≡◌, ℕ, ◌+◌, Bool, true, false, ◌&&◌, ◌||◌, cond, eqb, List, [], ◌∷◌, ◌++◌, refl, sym, ◌∙◌, ap, subst, ◌⊎◌, inl, inr, Contains}
+use Rattle.std.proofs.Common.{arith, ◌≡◌, ℕ, ◌+◌, Bool, true, false, ◌&&◌, ◌||◌, cond, eqb, List, [], ◌∷◌, ◌++◌, refl, sym, ◌∙◌, ap, subst}
+use Rattle.std.proofs.lemmas.Bool.{and_from}
 use Rattle.std.proofs.lemmas.List.{append_assoc}
-use Rattle.std.proofs.lemmas.List.Elements.{Contains-append_left, Contains-append_right, Contains-append_cases}
+use Rattle.std.proofs.lemmas.List.Elements.{Contains-append_left, Contains-append_right}
 use Rattle.mv_num.proofs.Booleans.{and_cases, from_falsity}
 use Rattle.mv_ir.specs.declared.tree.Tree.{Tree}
-use Rattle.mv_ir.specs.declared.tree.Tree.TheOpen as tree
 use Rattle.mv_ir.specs.declared.stm.Array.{Array}
 use Rattle.mv_ir.specs.declared.stm.Stm.{Stm, out-Stm}
 use Rattle.mv_ir.specs.declared.stm.Stm.TheOpen.{Stm-F}
@@ -15,13 +15,14 @@ use Rattle.mv_ir.specs.Operators as operator
 use Rattle.mv_ir.specs.Live.{HasTemps, nowhere}
 use Rattle.mv_ir.specs.Rolled.{number, temp, unary, binary, set, choose}
 use Rattle.mv_ir.specs.WellFormed.{IsWellFormed}
-use Rattle.mv_ir.proofs.Rolls.{nodes_roll, depth_roll, reads_roll}
 use Rattle.mv_fold.specs.Folded.{IsNoGreater}
-use Rattle.mv_fold.proofs.Within.{Among, none_among, Amount, Less, less_refl, less_trans, with, less_with, less_nothing, nothing, amount, amount_append, amount_one, Within, within_append, no_greater}
-use Rattle.mv_fold.proofs.FoldedWithin.{of_tree, inside, loop_amount, block_amount, chooser, if_amount, if_within}
-use Rattle.mv_fold.proofs.WellFormed.{Facts, Keep, keep_refl, keep_trans, both, facts, facts_append, facts_one, if_facts, Kept, kept_append, if_kept, loop_kept, block_kept, code_well_formed}
+use Rattle.mv_fold.proofs.Within.{Among, among_both, among_left, among_right, none_among, Amount, Less, less_refl, less_trans, with, less_with, less_nothing, bare, nothing, amount, amount_append, amount_one, Within, no_greater}
+use Rattle.mv_fold.proofs.FoldedWithin.{of_tree, chooser, amount_choice, if_within}
+use Rattle.mv_fold.proofs.WellFormed.{Facts, Keep, keep_refl, both, facts, facts_append, facts_one, if_facts, Kept, if_kept, code_well_formed}
+use Rattle.mv_plain.proofs.PlainKept.{unary_part, left_part}
 use Rattle.mv_tidy.specs.Choosing.{layer_jumps_only, is_jump, is_nothing, taken, sides, Attached, apart, denied, unequal, equal, pushed, jumped, Chosen}
 use Rattle.mv_tidy.proofs.Structure.{IsCongruence, chosen_is}
+use Rattle.mv_tidy.proofs.Measures.{within_parts, kept_parts}
 
 -- ---- by steps
 
@@ -42,26 +43,6 @@ record IsMerging (Q : List Stm → List Stm → Type 0) : Type 1 where
       Q (choices_of c a b e t n x y) (choose c (a ++ choose e x y ∷ []) (b ++ taken n x y) ∷ [])
   jump : (c e : Tree) (a b x y : List Stm) (t n : ℕ) →
       Q (choices_of c a b e t n x y) (choose c (a ++ choose e (cond (eqb n 0) x []) (cond (eqb n 0) [] y) ∷ []) b ∷ taken n x y)
-
-deny_less : (k : Tree) → Less (of_tree k) (of_tree (unary operator.logical_not k))
-deny_less k = record {
-  nodes = omega (arith, nodes_roll (tree.Unary operator.logical_not k));
-  depth = omega (arith, depth_roll (tree.Unary operator.logical_not k));
-  reads = subst (Among (of_tree k).reads) (sym (reads_roll (tree.Unary operator.logical_not k))) (λ g c. c);
-  statements = omega arith;
-  calls = omega arith;
-  arrays = none_among [];
-}
-
-compare_less : (o : ℕ) (k u : Tree) → Less (of_tree k) (of_tree (binary o k u))
-compare_less o k u = record {
-  nodes = omega (arith, nodes_roll (tree.Binary o k u));
-  depth = omega (arith, depth_roll (tree.Binary o k u));
-  reads = subst (Among (of_tree k).reads) (sym (reads_roll (tree.Binary o k u))) (λ g c. Contains-append_left (of_tree k).reads (of_tree u).reads g c);
-  statements = omega arith;
-  calls = omega arith;
-  arrays = none_among [];
-}
 
 module _ (Q : List Stm → List Stm → Type 0) (q : IsMerging Q) where
   abbrev p : IsCongruence Q
@@ -103,11 +84,11 @@ module _ (Q : List Stm → List Stm → Type 0) (q : IsMerging Q) where
 
   attach : (gone : ℕ → Type 0) (first : List Stm) (k : Tree) (x y z : List Stm) → Attached gone first k x y z → Q (first ++ choose k x y ∷ []) z
   attach gone first k x y z (apart f c a b) = p.itself _
-  attach gone first k x y z (denied f c a b w h) = asked (unary operator.logical_not c) c f a b w (deny_less c) (other c f a b w (attach gone f c b a w h))
+  attach gone first k x y z (denied f c a b w h) = asked (unary operator.logical_not c) c f a b w (unary_part operator.logical_not c) (other c f a b w (attach gone f c b a w h))
   attach gone first k x y z (unequal f c a b w h) =
-      asked (binary operator.not_equal c (number 0)) c f a b w (compare_less operator.not_equal c (number 0)) (attach gone f c a b w h)
+      asked (binary operator.not_equal c (number 0)) c f a b w (left_part operator.not_equal c (number 0)) (attach gone f c a b w h)
   attach gone first k x y z (equal f c a b w h) =
-      asked (binary operator.equal c (number 0)) c f a b w (compare_less operator.equal c (number 0)) (other c f a b w (attach gone f c b a w h))
+      asked (binary operator.equal c (number 0)) c f a b w (left_part operator.equal c (number 0)) (other c f a b w (attach gone f c b a w h))
   attach gone first k x y z (pushed turned f a b c e t n u v w g short h) =
       merged turned f a b c e t n u v (a ++ choose e u v ∷ []) w (b ++ taken n u v) [] (q.push c e a b u v t n short) (attach gone a e u v w h)
   attach gone first k x y z (jumped turned f a b c e t n u v w g is h) =
@@ -120,39 +101,18 @@ module _ (Q : List Stm → List Stm → Type 0) (q : IsMerging Q) where
 
 -- ---- counts
 
-among_both : (xs ys zs : List ℕ) → Among xs zs → Among ys zs → Among (xs ++ ys) zs
-among_both xs ys zs h k g c = by (Contains-append_cases xs ys g c)
-  where
-    by : Contains xs g ⊎ Contains ys g → Contains zs g
-    by (inl e) = h g e
-    by (inr e) = k g e
-
-among_left : (xs ys zs : List ℕ) → Among xs ys → Among xs (ys ++ zs)
-among_left xs ys zs h g c = Contains-append_left ys zs g (h g c)
-
-among_right : (xs ys zs : List ℕ) → Among xs zs → Among xs (ys ++ zs)
-among_right xs ys zs h g c = Contains-append_right ys zs g (h g c)
-
--- of a choice, and of some code and a statement behind it
-pub amount_choice : (k : Tree) (x y : List Stm) → amount (choose k x y ∷ []) ≡ with (chooser k) (with (amount x) (amount y))
-amount_choice k x y = amount_one (stm.If k x y) ∙ if_amount k x y
-
 abbrev pub setting : Tree → Amount
 setting e = record { nodes = (of_tree e).nodes + 0; depth = (with (of_tree e) nothing).depth; reads = (of_tree e).reads ++ []; statements = 1; calls = 0; arrays = [] }
 
 pub amount_set : (t : ℕ) (e : Tree) → amount (set t e ∷ []) ≡ setting e
 amount_set t e = amount_one (stm.Set t e)
 
--- a jump
-abbrev going : Amount
-going = record { nodes = 0; depth = 0; reads = []; statements = 1; calls = 0; arrays = [] }
-
-jump_less : (s : Stm) → layer_jumps_only (out-Stm s) ≡ true → Less (amount (s ∷ [])) going
-jump_less s h = subst (λ u. Less (amount (u ∷ [])) going) (roll-out-Stm s) (by (out-Stm s) h)
+jump_less : (s : Stm) → layer_jumps_only (out-Stm s) ≡ true → Less (amount (s ∷ [])) bare
+jump_less s h = subst (λ u. Less (amount (u ∷ [])) bare) (roll-out-Stm s) (by (out-Stm s) h)
   where
-    by : (x : Stm-F Stm) → layer_jumps_only x ≡ true → Less (amount (roll-Stm x ∷ [])) going
-    by (stm.Break n) e = subst (λ a. Less a going) (sym (amount_one (stm.Break n))) (less_refl going)
-    by (stm.Back n) e = subst (λ a. Less a going) (sym (amount_one (stm.Back n))) (less_refl going)
+    by : (x : Stm-F Stm) → layer_jumps_only x ≡ true → Less (amount (roll-Stm x ∷ [])) bare
+    by (stm.Break n) e = subst (λ a. Less a bare) (sym (amount_one (stm.Break n))) (less_refl bare)
+    by (stm.Back n) e = subst (λ a. Less a bare) (sym (amount_one (stm.Back n))) (less_refl bare)
     by (stm.Set t v) e = from_falsity e
     by (stm.SetGlobal g v) e = from_falsity e
     by (stm.Divide t o a b) e = from_falsity e
@@ -167,8 +127,8 @@ jump_less s h = subst (λ u. Less (amount (u ∷ [])) going) (roll-out-Stm s) (b
     by (stm.Known r k args) e = from_falsity e
     by (stm.Return v) e = from_falsity e
 
-short_less : (xs : List Stm) → Short xs → Less (amount xs) going
-short_less [] h = less_nothing going
+short_less : (xs : List Stm) → Short xs → Less (amount xs) bare
+short_less [] h = less_nothing bare
 short_less (s ∷ []) h = jump_less s h
 short_less (s ∷ u ∷ xs) h = from_falsity h
 
@@ -268,7 +228,7 @@ asked_less e = record {
   arrays = none_among [];
 }
 
-going_less : (e : Tree) → Less going (setting e)
+going_less : (e : Tree) → Less bare (setting e)
 going_less e = record { nodes = omega arith; depth = omega arith; reads = none_among (setting e).reads; statements = omega arith; calls = omega arith; arrays = none_among [] }
 
 module _ (c e : Tree) (a b x y : List Stm) (t n : ℕ) where
@@ -332,16 +292,6 @@ turned_within c a b =
     (subst (λ m. Less m (with (chooser c) (with (amount a) (amount b)))) (sym (amount_choice c b a))
     (less_with _ _ _ _ (less_refl (chooser c)) (turned_less (amount a) (amount b))))
 
-within_parts : IsCongruence Within
-within_parts = record {
-  itself = λ xs. less_refl _;
-  both = within_append;
-  trans = λ xs ys zs h k. less_trans _ _ _ k h;
-  branch = λ t a a' b b' h k. if_within t t a a' b b' (less_refl _) h k;
-  loop = λ b b' h. inside (stm.Loop b) (stm.Loop b') b b' (loop_amount b) (loop_amount b') h;
-  enclose = λ b b' h. inside (stm.Block b) (stm.Block b') b b' (block_amount b) (block_amount b') h;
-}
-
 within_merging : IsMerging Within
 within_merging = record {
   parts = within_parts;
@@ -355,9 +305,6 @@ within_merging = record {
 
 facts_choice : (k : Tree) (x y : List Stm) → facts (choose k x y ∷ []) ≡ both (facts x) (facts y)
 facts_choice k x y = facts_one (stm.If k x y) ∙ if_facts k x y
-
-and_holds : (a b : Bool) → a ≡ true → b ≡ true → (a && b) ≡ true
-and_holds a b h k = ap (λ c. c && b) h ∙ k
 
 -- what holds of each part of two choices holds of what they become
 module _ (a e b n x y t : Bool) (h : (((a && e) && (b && n)) && (x && y)) ≡ true) where
@@ -380,12 +327,12 @@ module _ (a e b n x y t : Bool) (h : (((a && e) && (b && n)) && (x && y)) ≡ tr
   y_holds = (and_cases x y choices.1).1
 
   push_holds : (x ≡ true → y ≡ true → t ≡ true) → ((a && (x && y)) && (b && t)) ≡ true
-  push_holds k = and_holds (a && (x && y)) (b && t) (and_holds a (x && y) a_holds choices.1) (and_holds b t b_holds (k x_holds y_holds))
+  push_holds k = and_from (a && (x && y)) (b && t) (and_from a (x && y) a_holds choices.1) (and_from b t b_holds (k x_holds y_holds))
 
   jump_holds : (u v : Bool) → (x ≡ true → y ≡ true → u ≡ true) → (x ≡ true → y ≡ true → v ≡ true) → (x ≡ true → y ≡ true → t ≡ true) →
       (((a && (u && v)) && b) && t) ≡ true
   jump_holds u v hu hv ht =
-      and_holds ((a && (u && v)) && b) t (and_holds (a && (u && v)) b (and_holds a (u && v) a_holds (and_holds u v (hu x_holds y_holds) (hv x_holds y_holds))) b_holds) (ht x_holds y_holds)
+      and_from ((a && (u && v)) && b) t (and_from (a && (u && v)) b (and_from a (u && v) a_holds (and_from u v (hu x_holds y_holds) (hv x_holds y_holds))) b_holds) (ht x_holds y_holds)
 
 -- what is asked of two parts is asked of a third
 record From (x y t : Facts) : Type 0 where
@@ -478,7 +425,7 @@ module _ (c e : Tree) (a b x y : List Stm) (t n : ℕ) where
       (from_left (eqb n 0) x y) (from_right (eqb n 0) x y) (from_either (eqb n 0) x y)))
 
 turned_holds : (a b : Bool) → (a && b) ≡ true → (b && a) ≡ true
-turned_holds a b h = let parts = and_cases a b h in and_holds b a parts.1 parts.0
+turned_holds a b h = let parts = and_cases a b h in and_from b a parts.1 parts.0
 
 turned_keeps : (a b : Facts) → Keep (both a b) (both b a)
 turned_keeps a b = record {
@@ -491,16 +438,6 @@ turned_kept : (c : Tree) (a b : List Stm) → Kept (choose c a b ∷ []) (choose
 turned_kept c a b =
     subst (λ m. Keep m (facts (choose c b a ∷ []))) (sym (facts_choice c a b))
     (subst (Keep (both (facts a) (facts b))) (sym (facts_choice c b a)) (turned_keeps (facts a) (facts b)))
-
-kept_parts : IsCongruence Kept
-kept_parts = record {
-  itself = λ xs. keep_refl _;
-  both = kept_append;
-  trans = λ xs ys zs. keep_trans (facts xs) (facts ys) (facts zs);
-  branch = λ t a a' b b' h k. if_kept t t a a' b b' h k;
-  loop = loop_kept;
-  enclose = block_kept;
-}
 
 kept_merging : IsMerging Kept
 kept_merging = record {

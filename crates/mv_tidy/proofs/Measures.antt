@@ -12,9 +12,9 @@ use Rattle.mv_ir.specs.Measures.{tree_reads}
 use Rattle.mv_ir.specs.Rolled.{temp, set}
 use Rattle.mv_ir.specs.WellFormed.{IsWellFormed}
 use Rattle.mv_fold.specs.Folded.{IsNoGreater}
-use Rattle.mv_fold.proofs.Within.{none_among, Less, less_refl, less_trans, with, less_nothing, amount, amount_append, layer_amount, amount_one, Within, within_append, within_one, no_greater}
-use Rattle.mv_fold.proofs.FoldedWithin.{of_tree, inside, loop_amount, block_amount, if_within}
-use Rattle.mv_fold.proofs.WellFormed.{layer_facts, Kept, keep_refl, kept_append, alike, if_kept, loop_kept, block_kept, code_well_formed}
+use Rattle.mv_fold.proofs.Within.{none_among, Less, less_refl, less_trans, with, less_nothing, amount, amount_append, layer_amount, amount_one, Within, within_append, no_greater}
+use Rattle.mv_fold.proofs.FoldedWithin.{of_tree, inside, loop_amount, block_amount, if_within, pair_within as moved_within}
+use Rattle.mv_fold.proofs.WellFormed.{layer_facts, facts, Kept, kept_nothing, keep_refl, keep_trans, kept_append, alike, if_kept, loop_kept, block_kept, code_well_formed}
 use Rattle.mv_tidy.specs.Tidying.{Takes, IsOne, divided, fetched, called, asked, carried, stored, written, IsJoinedCode}
 use Rattle.mv_tidy.proofs.Structure.{IsCongruence, IsClosed, joined_is}
 use Rattle.mv_tidy.proofs.Values.{taken_less}
@@ -24,10 +24,6 @@ use Rattle.mv_tidy.proofs.Thinning.{tidied_temps}
 
 none_within : (xs : List Stm) → Within xs []
 none_within xs = less_nothing (amount xs)
-
--- a result that is moved has what it had
-moved_within : (x y z : Stm-F Stm) → Less (layer_amount z) (layer_amount x) → Within (roll-Stm x ∷ roll-Stm y ∷ []) (roll-Stm z ∷ [])
-moved_within x y z h = within_append (roll-Stm x ∷ []) (roll-Stm z ∷ []) (roll-Stm y ∷ []) [] (within_one x z h) (none_within (roll-Stm y ∷ []))
 
 -- two statements, by their layers
 pair_within : (x y z : Stm-F Stm) → Less (layer_amount z) (with (layer_amount x) (layer_amount y)) → Within (roll-Stm x ∷ roll-Stm y ∷ []) (roll-Stm z ∷ [])
@@ -117,14 +113,11 @@ within_closed = record {
 
 -- ---- what is asked of code
 
-none_kept : (xs : List Stm) → Kept xs []
-none_kept xs = record { targets = λ r e. refl; arguments = λ e. refl; named = λ p e. refl }
-
 moved_kept : (x y z : Stm-F Stm) → layer_facts x ≡ layer_facts z → Kept (roll-Stm x ∷ roll-Stm y ∷ []) (roll-Stm z ∷ [])
-moved_kept x y z e = kept_append (roll-Stm x ∷ []) (roll-Stm z ∷ []) (roll-Stm y ∷ []) [] (alike x z e) (none_kept (roll-Stm y ∷ []))
+moved_kept x y z e = kept_append (roll-Stm x ∷ []) (roll-Stm z ∷ []) (roll-Stm y ∷ []) [] (alike x z e) (kept_nothing (roll-Stm y ∷ []))
 
 taken_kept : (x y z : Stm-F Stm) → layer_facts y ≡ layer_facts z → Kept (roll-Stm x ∷ roll-Stm y ∷ []) (roll-Stm z ∷ [])
-taken_kept x y z e = kept_append (roll-Stm x ∷ []) [] (roll-Stm y ∷ []) (roll-Stm z ∷ []) (none_kept (roll-Stm x ∷ [])) (alike y z e)
+taken_kept x y z e = kept_append (roll-Stm x ∷ []) [] (roll-Stm y ∷ []) (roll-Stm z ∷ []) (kept_nothing (roll-Stm x ∷ [])) (alike y z e)
 
 one_kept : (gone : ℕ → Type 0) (s n z : Stm) → IsOne gone s n z → Kept (s ∷ n ∷ []) (z ∷ [])
 one_kept gone s n z (divided t x o a b g) = moved_kept (stm.Divide t o a b) (stm.Set x (temp t)) (stm.Divide x o a b) refl
@@ -139,7 +132,7 @@ pub kept_parts : IsCongruence Kept
 kept_parts = record {
   itself = λ xs. keep_refl _;
   both = kept_append;
-  trans = λ xs ys zs h k. record { targets = λ r e. k.targets r (h.targets r e); arguments = λ e. k.arguments (h.arguments e); named = λ p e. k.named p (h.named p e) };
+  trans = λ xs ys zs. keep_trans (facts xs) (facts ys) (facts zs);
   branch = λ t a a' b b' h k. if_kept t t a a' b b' h k;
   loop = loop_kept;
   enclose = block_kept;
@@ -149,8 +142,8 @@ kept_closed : IsClosed Kept
 kept_closed = record {
   parts = kept_parts;
   pair = one_kept;
-  drop = λ t e. none_kept (set t e ∷ []);
-  end = λ s rest j k. kept_append (s ∷ []) (s ∷ []) rest [] (keep_refl _) (none_kept rest);
+  drop = λ t e. kept_nothing (set t e ∷ []);
+  end = λ s rest j k. kept_append (s ∷ []) (s ∷ []) rest [] (keep_refl _) (kept_nothing rest);
 }
 
 -- ---- bodies

@@ -1,6 +1,6 @@
 -- Two statements and the one that they are together, as one temporary sees them.
 use Rattle.std.proofs.Common.{◌≡◌, ℕ, Bool, true, false, not, eqb, ◌&&◌, ◌||◌, List, [], ◌∷◌, ◌++◌, Option, Some, None, sym, ◌∙◌, ap, subst, ◌⊎◌, inl, inr}
-use Rattle.std.proofs.lemmas.Bool.{eq-eqb, ne_eqb, or_left, or_right}
+use Rattle.std.proofs.lemmas.Bool.{eq-eqb, eqb-false, ne_eqb, or_left, or_right}
 use Rattle.mv_num.proofs.Booleans.{or_cases, and_cases, from_falsity}
 use Rattle.mv_ir.specs.declared.tree.Tree.{Tree}
 use Rattle.mv_ir.specs.declared.stm.Stm.{Stm}
@@ -12,7 +12,7 @@ use Rattle.mv_ir.specs.Live.{reads_temp, any_reads, is, Around, plain, goes_next
 use Rattle.mv_ir.specs.Rolled.{temp}
 use Rattle.mv_ir.proofs.Rolls.{flow_roll}
 use Rattle.mv_tidy.specs.Tidying.{Takes, IsOne, divided, fetched, called, asked, carried, stored, written}
-use Rattle.mv_tidy.proofs.Values.{apart, ReadThere, taken_reads}
+use Rattle.mv_tidy.proofs.Values.{ReadThere, taken_reads}
 
 -- each reads and writes what it says, and goes on behind itself
 pub record Pair (gone : ℕ → Type 0) (s n z : Stm) : Type 0 where
@@ -49,7 +49,7 @@ module _ (gone : ℕ → Type 0) (t x : ℕ) (g : gone t) where
 module _ (gone : ℕ → Type 0) (t : ℕ) (e v w : Tree) (k : Takes t e v w) where
   there : (u : ℕ) → ReadThere t e u v → (any_reads u (e ∷ []) ≡ true) ⊎ ((any_reads u (v ∷ []) ≡ true) × (u ≡ t → ⊥))
   there u (inl r) = inl (or_left (reads_temp u e) false r)
-  there u (inr r) = inr (or_left (reads_temp u v) false r.0, apart u t r.1)
+  there u (inr r) = inr (or_left (reads_temp u v) false r.0, eqb-false u t r.1)
 
   taken : (u : ℕ) → any_reads u (w ∷ []) ≡ true → (any_reads u (e ∷ []) ≡ true) ⊎ ((any_reads u (v ∷ []) ≡ true) × (u ≡ t → ⊥))
   taken u r = by (or_cases (reads_temp u w) false r)

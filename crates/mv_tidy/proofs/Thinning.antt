@@ -1,5 +1,5 @@
 -- What becomes of code has nothing live at its start that wasn't live there before, and reads and writes no other temporaries.
-use Rattle.std.proofs.Common.{◌≡◌, ℕ, zero, suc, ◌<◌, Bool, true, false, not, eqb, ◌&&◌, ◌||◌, List, [], ◌∷◌, ◌++◌, map, Some, refl, sym, ◌∙◌, ap, subst, ◌⊎◌, inl, inr}
+use Rattle.std.proofs.Common.{◌≡◌, ℕ, ◌<◌, Bool, true, false, not, eqb, ◌&&◌, ◌||◌, List, [], ◌∷◌, ◌++◌, map, Some, refl, sym, ◌∙◌, ap, subst, ◌⊎◌, inl, inr}
 use Rattle.std.proofs.lemmas.Bool.{cases_eq, ne_eqb, or_left, or_right}
 use Rattle.mv_num.proofs.Booleans.{or_cases, from_falsity}
 use Rattle.mv_ast.specs.Names.{any_of}
@@ -8,12 +8,14 @@ use Rattle.mv_ir.specs.declared.stm.Stm.{Stm, out-Stm}
 use Rattle.mv_ir.specs.declared.stm.Stm.TheOpen as stm
 use Rattle.mv_ir.specs.declared.stm.Stm.TheViews.{roll-Stm, roll-out-Stm}
 use Rattle.mv_ir.specs.declared.body.Body.{Body}
-use Rattle.mv_ir.specs.Live.{reads_temp, any_reads, is, Around, Flow, with_after, around_block, around_loop, at_place, live_in_order, marks_in_order, live_at_loop, plain, goes_next, flow, nowhere, live_at_start, all_marks, IsWhole, HasTemps}
+use Rattle.mv_ir.specs.Live.{reads_temp, any_reads, is, Around, Flow, with_after, around_block, around_loop, live_in_order, marks_in_order, live_at_loop, plain, goes_next, flow, nowhere, live_at_start, all_marks, IsWhole, HasTemps}
 use Rattle.mv_ir.specs.Rolled.{temp, set, choose, repeat, enclosed}
-use Rattle.mv_ir.proofs.Rolls.{same_functions, flow_roll, flow_of_layer}
+use Rattle.mv_ir.proofs.Living.{flows, settled}
+use Rattle.mv_ir.proofs.Rolls.{flow_roll, flow_of_layer}
 use Rattle.mv_fold.specs.Simple.{layer_jumps, jumps}
 use Rattle.mv_fold.proofs.Marks.{any_marked, marked_any, any_left, any_right, any_cases, any_both}
-use Rattle.mv_fold.proofs.Thinner.{covers_any, Implies, FitsAround, nowhere_fits}
+use Rattle.mv_fold.proofs.Thinner.{covers_any, or_both, Implies, FitsAround, nowhere_fits}
+use Rattle.mv_fold.proofs.Thinner as thinner
 use Rattle.mv_fold.proofs.FoldedThinner.{every, same as stays}
 use Rattle.mv_tidy.specs.Tidying.{IsOne, lives, before, in_loop, in_block, Left, Becomes, none, put, one, dropped, idle, ended, same, choice, turns, block, IsJoinedCode}
 use Rattle.mv_tidy.proofs.Equations.{itself_read}
@@ -46,10 +48,12 @@ pub jump_stops : (s : Stm) → jumps s ≡ true → Stops (λ t. flow t s)
 unfolding jumps
 jump_stops s e =
     subst (λ u. Stops (λ t. flow t u)) (roll-out-Stm s)
-    (subst Stops (sym (same_functions (λ t. flow t (roll-Stm (out-Stm s))) (flow_of_layer (out-Stm s)) (λ t. flow_roll t (out-Stm s))))
-    (layer_stops (out-Stm s) e))
+    (subst Stops (sym (flows (out-Stm s))) (layer_stops (out-Stm s) e))
 
 -- ---- around one temporary
+
+pub fits_itself : (t : ℕ) (r : Around) → FitsAround every t r r
+fits_itself t r = record { next = λ e. (e, refl); leaves = λ n e. (e, refl); restarts = λ n e. (e, refl) }
 
 module _ (temps t : ℕ) where
   -- the second sees no more that is live
@@ -62,15 +66,11 @@ module _ (temps t : ℕ) where
   pub fits_after : (r r' : Around) (b b' : Bool) → Fits r r' → (b' ≡ true → b ≡ true) → Fits (with_after r b) (with_after r' b')
   fits_after r r' b b' f h = record { next = as_implied b b' h; leaves = f.leaves; restarts = f.restarts }
 
-  at_place_fits : (b b' : Bool) (f f' : ℕ → Bool) → Implies every t b b' → ((n : ℕ) → Implies every t (f n) (f' n)) → (n : ℕ) → Implies every t (at_place b f n) (at_place b' f' n)
-  at_place_fits b b' f f' h k zero = h
-  at_place_fits b b' f f' h k (suc n) = k n
-
   pub fits_loop : (r r' : Around) (b b' : Bool) → Fits r r' → (b' ≡ true → b ≡ true) → Fits (around_loop r b) (around_loop r' b')
-  fits_loop r r' b b' f h = record { next = as_implied b b' h; leaves = at_place_fits _ _ _ _ f.next f.leaves; restarts = at_place_fits _ _ _ _ (as_implied b b' h) f.restarts }
+  fits_loop r r' b b' f h = thinner.fits_loop every t r r' b b' f (as_implied b b' h)
 
   pub fits_block : (r r' : Around) → Fits r r' → Fits (around_block r) (around_block r')
-  fits_block r r' f = record { next = f.next; leaves = at_place_fits _ _ _ _ f.next f.leaves; restarts = at_place_fits _ _ _ _ (λ v. from_falsity v) f.restarts }
+  fits_block = thinner.fits_block every t
 
   -- ---- what is shown
 
@@ -237,32 +237,20 @@ module _ (temps t : ℕ) where
       by r' f (inr e) = from_falsity e
 
   -- by the layers
-  layer_thin : (r : Around) (x y : stm.Stm-F Stm) → ((r' : Around) → Fits r r' → (flow_of_layer y t).live r' ≡ true → (flow_of_layer x t).live r ≡ true) → ((r' : Around) → Fits r r' → any_of ((flow_of_layer y t).marks r') ≡ true → any_of ((flow_of_layer x t).marks r) ≡ true) → ThinStm r (roll-Stm x) (roll-Stm y)
+  layer_thin : (r : Around) (x y : stm.Stm-F Stm) →
+      ((r' : Around) → Fits r r' → (flow_of_layer y t).live r' ≡ true → (flow_of_layer x t).live r ≡ true) →
+      ((r' : Around) → Fits r r' → any_of ((flow_of_layer y t).marks r') ≡ true → any_of ((flow_of_layer x t).marks r) ≡ true) →
+      ThinStm r (roll-Stm x) (roll-Stm y)
   layer_thin r x y h k = record {
     live = λ r' f e. ap (λ (g : Flow). g.live r) (flow_roll t x) ∙ h r' f (ap (λ (g : Flow). g.live r') (sym (flow_roll t y)) ∙ e);
     marks = λ r' f e. ap (λ (g : Flow). any_of (g.marks r)) (flow_roll t x) ∙ k r' f (ap (λ (g : Flow). any_of (g.marks r')) (sym (flow_roll t y)) ∙ e);
   }
-
-  pub or_both : (a b c d : Bool) → (c ≡ true → a ≡ true) → (d ≡ true → b ≡ true) → (c || d) ≡ true → (a || b) ≡ true
-  or_both a b c d h k e = by (or_cases c d e)
-    where
-      by : (c ≡ true) ⊎ (d ≡ true) → (a || b) ≡ true
-      by (inl x) = or_left a b (h x)
-      by (inr y) = or_right a b (k y)
 
   choice_thin : (r : Around) (x : Tree) (a a' b b' : List Stm) (p q : Bool) → IsThin r a p a' → IsThin r b q b' → ThinStm r (choose x a b) (choose x a' b')
   choice_thin r x a a' b b' p q ha hb =
       let live = λ (r' : Around) (f : Fits r r'). or_both _ _ _ _ (λ e. e) (or_both _ _ _ _ (thin_live r a p a' ha r' f) (thin_live r b q b' hb r' f)) in
       layer_thin r (stm.If x a b) (stm.If x a' b') live
       (λ r' f. or_both _ _ _ _ (live r' f) (any_both (marks_in a r) (marks_in b r) (marks_in a' r') (marks_in b' r') (thin_marks r a p a' ha r' f) (thin_marks r b q b' hb r' f)))
-
-  -- what is live at a loop's start is so with it
-  pub settled : (f : Bool → Bool) → f (f false) ≡ true → f false ≡ true
-  settled f h = by (f false) refl
-    where
-      by : (b : Bool) → f false ≡ b → f false ≡ true
-      by true e = e
-      by false e = sym (ap f e) ∙ h
 
   turns_thin : (r : Around) (b b' : List Stm) (p : Bool) → IsThin (around_loop r (live_at_loop (map (flow t) b) r)) b p b' → ThinStm r (repeat b) (repeat b')
   turns_thin r b b' p h = layer_thin r (stm.Loop b) (stm.Loop b') start (λ r' f. or_both _ _ _ _ (start r' f) (thin_marks _ b p b' h _ (fits_loop r r' _ _ f (start r' f))))
@@ -292,15 +280,28 @@ module _ (temps t : ℕ) where
 
 -- ---- bodies
 
-module _ (b : Body) (code : List Stm) (k : IsJoinedCode b.temps b.code code) where
-  start : (t : ℕ) → live_at_start t code ≡ true → live_at_start t b.code ≡ true
-  start t = thin_live b.temps t nowhere b.code (k.behind t) code (left_thin b.temps t (λ u. nowhere) b.code code k.behind k.left) nowhere (nowhere_fits every t)
+-- code that has nothing live at its start that wasn't
+module _ (b : Body) (code : List Stm) (start : (t : ℕ) → live_at_start t code ≡ true → live_at_start t b.code ≡ true) where
+  pub still_whole : IsWhole b → IsWhole (record b { code = code })
+  still_whole w t e = w t (start t e)
 
-  all : (t : ℕ) → any_of (all_marks (record b { code = code }) t) ≡ true → any_of (all_marks b t) ≡ true
-  all t = or_both b.temps t _ _ _ _ (or_both b.temps t _ _ _ _ (start t) (λ e. e)) (thin_marks b.temps t nowhere b.code (k.behind t) code (left_thin b.temps t (λ u. nowhere) b.code code k.behind k.left) nowhere (nowhere_fits every t))
+  -- nor anything live or written in it
+  module _ (marks : (t : ℕ) → any_of (marks_in_order (map (flow t) code) nowhere) ≡ true → any_of (marks_in_order (map (flow t) b.code) nowhere) ≡ true) where
+    all : (t : ℕ) → any_of (all_marks (record b { code = code }) t) ≡ true → any_of (all_marks b t) ≡ true
+    all t = or_both _ _ _ _ (or_both _ _ _ _ (start t) (λ e. e)) (marks t)
+
+    pub still_temps : HasTemps b → HasTemps (record b { code = code })
+    still_temps w i t e = let found = any_marked (all_marks b t) (all t (marked_any (all_marks (record b { code = code }) t) i e)) in w found.0 t found.1
+
+module _ (b : Body) (code : List Stm) (k : IsJoinedCode b.temps b.code code) where
+  thin : (t : ℕ) → IsThin b.temps t nowhere b.code (k.behind t) code
+  thin t = left_thin b.temps t (λ u. nowhere) b.code code k.behind k.left
+
+  start : (t : ℕ) → live_at_start t code ≡ true → live_at_start t b.code ≡ true
+  start t = thin_live b.temps t nowhere b.code (k.behind t) code (thin t) nowhere (nowhere_fits every t)
 
   pub tidied_whole : IsWhole b → IsWhole (record b { code = code })
-  tidied_whole w t e = w t (start t e)
+  tidied_whole = still_whole b code start
 
   pub tidied_temps : HasTemps b → HasTemps (record b { code = code })
-  tidied_temps w i t e = let found = any_marked (all_marks b t) (all t (marked_any (all_marks (record b { code = code }) t) i e)) in w found.0 t found.1
+  tidied_temps = still_temps b code start (λ t. thin_marks b.temps t nowhere b.code (k.behind t) code (thin t) nowhere (nowhere_fits every t))

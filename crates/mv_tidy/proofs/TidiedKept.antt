@@ -1,5 +1,5 @@
 -- Tidying keeps the meaning of code, at no greater cost.
-use Rattle.std.proofs.Common.{arith, ◌≡◌, ℕ, zero, suc, ◌+◌, ◌*◌, ◌<◌, ◌≤◌, Bool, true, false, cond, not, eqb, ltb, ◌&&◌, ◌||◌, List, [], ◌∷◌, ◌++◌, length, map, Option, Some, None, refl, sym, ◌∙◌, ap, subst, ◌⊎◌, inl, inr, append-nil}
+use Rattle.std.proofs.Common.{arith, ◌≡◌, ℕ, ◌+◌, ◌*◌, ◌<◌, ◌≤◌, Bool, true, false, cond, not, eqb, ltb, ◌&&◌, ◌||◌, List, [], ◌∷◌, ◌++◌, length, map, Option, Some, None, refl, sym, ◌∙◌, ap, subst, ◌⊎◌, inl, inr, append-nil}
 use Rattle.std.specs.Prelude.{slice_index, slice_index_or, slice_set}
 use Rattle.std.proofs.lemmas.List.{length-set, get_or-set_other, get_or_past, set_past}
 use Rattle.std.proofs.lemmas.Grind.{get_or-set_at}
@@ -21,22 +21,23 @@ use Rattle.mv_ir.specs.Outcome.{State, Next, Leaves, Restarts, Ends, Outcome, Bo
 use Rattle.mv_ir.specs.Meaning.{meaning, code_meaning, elements, outside, with_elements, with_global, entry_state}
 use Rattle.mv_ir.specs.Measures.{callee_trees}
 use Rattle.mv_ir.specs.Keeps.{KeepsMeaning, KeepsBody}
-use Rattle.mv_ir.specs.Live.{reads_temp, any_reads, is, Around, with_after, at_place, around_loop, live_in_order, live_at_loop, flow, nowhere}
+use Rattle.mv_ir.specs.Live.{reads_temp, any_reads, is, Around, with_after, around_loop, live_in_order, live_at_loop, flow, nowhere}
 use Rattle.mv_ir.specs.Rolled.{temp, set}
 use Rattle.mv_ir.proofs.Induction.{Each, StmChildren, stm_ind}
-use Rattle.mv_ir.proofs.Rolls.{same_functions, value_roll, flow_roll, flow_of_layer}
+use Rattle.mv_ir.proofs.Rolls.{value_roll, flow_roll, flow_of_layer}
 use Rattle.mv_ir.proofs.Keeping.{map_append, meaning_roll, one_meaning, layer_means}
-use Rattle.mv_ir.proofs.Relating.{Rel, StateRel, Places, with_next, under, in_block as within_block, in_loop as within_loop, OutcomeRel, RunRel, MeaningRel, nil_rel, cons_rel, append_rel, meaning_weaker, places_weaker, block_rel, loop_rel, end_same}
+use Rattle.mv_ir.proofs.Relating.{Rel, StateRel, Places, with_next, in_block as within_block, in_loop as within_loop, OutcomeRel, RunRel, MeaningRel, nil_rel, cons_rel, append_rel, meaning_weaker, places_weaker, block_rel, loop_rel, end_same}
 use Rattle.mv_ir.proofs.RelatedStatements.{from_temps, SameIn, SameTreesIn, SameCalleeIn, Writes, Weaker, Puts, set_rel, set_global_rel, divide_rel, check_rel, read_rel, write_rel, zero_rel, if_rel, break_rel, back_rel, call_rel, known_rel, return_rel}
-use Rattle.mv_ir.proofs.Joining.{temps_enough}
+use Rattle.mv_ir.proofs.Joining.{temps_enough, reads_left, reads_right}
+use Rattle.mv_ir.proofs.Living.{ReadLive, AllLive, first_live, rest_live, live_at, all_live, live_still, live_other, settled, flows, under_block, under_start}
+use Rattle.mv_ir.proofs.Living as living
 use Rattle.mv_fold.specs.Simple.{jumps, ended as up_to_jump}
 use Rattle.mv_fold.proofs.SimpleKept.{ended_kept}
-use Rattle.mv_fold.proofs.FoldedThinner.{every}
-use Rattle.mv_fold.proofs.Thinner.{FitsAround}
+use Rattle.mv_fold.proofs.NeededKept.{value_same}
 use Rattle.mv_tidy.specs.Tidying.{Takes, IsOne, divided, fetched, called, asked, carried, stored, written, lives, before, in_loop, in_block, Left, Becomes, none, put, one, dropped, idle, ended, same, choice, turns, block, IsJoinedCode}
 use Rattle.mv_tidy.proofs.Equations.{itself_read}
-use Rattle.mv_tidy.proofs.Values.{value_same, takes_value, taken_less}
-use Rattle.mv_tidy.proofs.Thinning.{jump_stops, left_thin}
+use Rattle.mv_tidy.proofs.Values.{takes_value, taken_less}
+use Rattle.mv_tidy.proofs.Thinning.{fits_itself, jump_stops, left_thin}
 
 -- ---- related runs, one after the other
 
@@ -103,40 +104,16 @@ module _ (temps : ℕ) (setting : Setting) (frame : Frame) where
   weaker l l' h xs ys a = record { long = a.long; room = a.room; same = λ t e. a.same t (h t e) }
 
   abbrev pub places : (ℕ → Around) → Places
-  places r = record { next = Agree (λ t. (r t).next); leaves = λ k. Agree (λ t. (r t).leaves k); restarts = λ k. Agree (λ t. (r t).restarts k) }
+  places = living.places Agree
 
   -- ---- trees
 
-  abbrev ReadLive : (ℕ → Bool) → Tree → Type 0
-  ReadLive l x = (t : ℕ) → reads_temp t x ≡ true → l t ≡ true
-
   same_in : (l : ℕ → Bool) (x : Tree) → ReadLive l x → SameIn setting frame (Agree l) x x
-  same_in l x h = record { value = λ xs ys globals a. value_same setting.numbers frame.bound globals xs ys x (λ t r. a.same t (h t r)); smaller = omega arith }
-
-  abbrev AllLive : (ℕ → Bool) → List Tree → Type 0
-  AllLive l ts = (t : ℕ) → any_reads t ts ≡ true → l t ≡ true
-
-  first_live : (l : ℕ → Bool) (x : Tree) (xs : List Tree) → AllLive l (x ∷ xs) → ReadLive l x
-  first_live l x xs h t e = h t (or_left (reads_temp t x) (any_reads t xs) e)
-
-  rest_live : (l : ℕ → Bool) (x : Tree) (xs : List Tree) → AllLive l (x ∷ xs) → AllLive l xs
-  rest_live l x xs h t e = h t (or_right (reads_temp t x) (any_reads t xs) e)
+  same_in l x h = record { value = λ xs ys globals a. value_same setting.numbers frame.bound xs ys globals x (λ t r. a.same t (h t r)); smaller = omega arith }
 
   many_in : (l : ℕ → Bool) (q : Places) (xs : List Tree) → AllLive l xs → SameTreesIn setting frame (Agree l) q xs xs
   many_in l q [] h = tt
   many_in l q (x ∷ xs) h = (same_in l x (first_live l x xs h), many_in l q xs (rest_live l x xs h))
-
-  reads_left : (t : ℕ) (xs ys : List Tree) → any_reads t xs ≡ true → any_reads t (xs ++ ys) ≡ true
-  reads_left t [] ys h = let e : false ≡ true = h in absurd cc
-  reads_left t (x ∷ xs) ys h = by (reads_temp t x) (any_reads t xs) h (reads_left t xs ys)
-    where
-      by : (a b : Bool) → (a || b) ≡ true → (b ≡ true → any_reads t (xs ++ ys) ≡ true) → (a || any_reads t (xs ++ ys)) ≡ true
-      by true b e k = refl
-      by false b e k = k e
-
-  reads_right : (t : ℕ) (xs ys : List Tree) → any_reads t ys ≡ true → any_reads t (xs ++ ys) ≡ true
-  reads_right t [] ys h = h
-  reads_right t (x ∷ xs) ys h = or_right (reads_temp t x) _ (reads_right t xs ys h)
 
   callee_in : (l : ℕ → Bool) (q : Places) (f : Callee) → AllLive l (callee_trees f) → SameCalleeIn setting frame (Agree l) q f f
   callee_in l q (callee.Direct f) h = refl
@@ -146,30 +123,20 @@ module _ (temps : ℕ) (setting : Setting) (frame : Frame) where
 
   -- ---- one statement
 
-  -- where a statement's temporaries are live
-  abbrev L : List Tree → Option ℕ → (ℕ → Bool) → ℕ → Bool
-  L reads writes on t = any_reads t reads || (not (is writes t) && on t)
+  one_live : (x : Tree) (writes : Option ℕ) (on : ℕ → Bool) → ReadLive (live_at (x ∷ []) writes on) x
+  one_live x writes on = first_live (live_at (x ∷ []) writes on) x [] (all_live (x ∷ []) writes on)
 
-  all_live : (reads : List Tree) (writes : Option ℕ) (on : ℕ → Bool) → AllLive (L reads writes on) reads
-  all_live reads writes on t e = or_left _ _ e
+  stays : (reads : List Tree) (on : ℕ → Bool) → Weaker setting frame (Agree (live_at reads None on)) (Agree on)
+  stays reads on = weaker (live_at reads None on) on (live_still reads on)
 
-  one_live : (x : Tree) (writes : Option ℕ) (on : ℕ → Bool) → ReadLive (L (x ∷ []) writes on) x
-  one_live x writes on = first_live (L (x ∷ []) writes on) x [] (all_live (x ∷ []) writes on)
-
-  stays : (reads : List Tree) (on : ℕ → Bool) → Weaker setting frame (Agree (L reads None on)) (Agree on)
-  stays reads on = weaker (L reads None on) on (λ t e. or_right (any_reads t reads) (on t) e)
-
-  live_other : (reads : List Tree) (u : ℕ) (on : ℕ → Bool) (t : ℕ) → (t ≡ u → ⊥) → on t ≡ true → L reads (Some u) on t ≡ true
-  live_other reads u on t ne e = or_right (any_reads t reads) _ (ap (λ b. not b && on t) (ne_eqb u t (λ s. ne (sym s))) ∙ e)
-
-  writes_on : (reads : List Tree) (u : ℕ) (on : ℕ → Bool) → Writes setting frame (Agree (L reads (Some u) on)) (Agree on) u u
+  writes_on : (reads : List Tree) (u : ℕ) (on : ℕ → Bool) → Writes setting frame (Agree (live_at reads (Some u) on)) (Agree on) u u
   writes_on reads u on xs ys v a = record {
     long = length-set xs u v ∙ a.long ∙ sym (length-set ys u v);
     room = (let e = length-set xs u v in let k = a.room in omega (arith, e, k));
     same = λ t e. both_set xs ys u v t a.long (λ ne. a.same t (live_other reads u on t ne e));
   }
 
-  puts_on : (reads : List Tree) (w : Option ℕ) (r : ℕ → Around) → Puts setting frame (Agree (L reads w (λ t. (r t).next))) (places r) w w
+  puts_on : (reads : List Tree) (w : Option ℕ) (r : ℕ → Around) → Puts setting frame (Agree (live_at reads w (λ t. (r t).next))) (places r) w w
   puts_on reads None r = stays reads (λ t. (r t).next)
   puts_on reads (Some u) r = writes_on reads u (λ t. (r t).next)
 
@@ -185,23 +152,9 @@ module _ (temps : ℕ) (setting : Setting) (frame : Frame) where
   self_kids [] h r = nil_rel (Agree (λ t. (r t).next)) (places r)
   self_kids (s ∷ b) h r = cons_rel (Agree (lives r (s ∷ b))) (Agree (lives r b)) (places r) (m s) (m s) (map m b) (map m b) (h.0 (before r b)) (self_kids b h.1 r)
 
-  -- f of f of false is f of false
-  settled : (f : Bool → Bool) → f (f false) ≡ true → f false ≡ true
-  settled f h = by (f false) refl
-    where
-      by : (b : Bool) → f false ≡ b → f false ≡ true
-      by true e = e
-      by false e = sym (ap f e) ∙ h
-
-  under_block : (r : ℕ → Around) (k : ℕ) (xs ys : List ℕ) → Agree (λ t. at_place (r t).next (r t).leaves k) xs ys → under (Agree (λ t. (r t).next)) (Agree (λ t. (r t).next)) k (λ k. Agree (λ t. (r t).leaves k)) xs ys
-  under_block r zero xs ys a = a
-  under_block r (suc k) xs ys a = a
-
-  under_start : (start : ℕ → Bool) (r : ℕ → Around) (k : ℕ) (xs ys : List ℕ) → Agree (λ t. at_place (start t) (r t).restarts k) xs ys → under (Agree start) (Agree start) k (λ k. Agree (λ t. (r t).restarts k)) xs ys
-  under_start start r zero xs ys a = a
-  under_start start r (suc k) xs ys a = a
-
-  choice_rel : (r : ℕ → Around) (v : Tree) (x x' y y' : List Stm) → MeaningRel (Agree (lives r x)) (places r) (in_order (map m x)) (in_order (map m x')) → MeaningRel (Agree (lives r y)) (places r) (in_order (map m y)) (in_order (map m y')) →
+  choice_rel : (r : ℕ → Around) (v : Tree) (x x' y y' : List Stm) →
+      MeaningRel (Agree (lives r x)) (places r) (in_order (map m x)) (in_order (map m x')) →
+      MeaningRel (Agree (lives r y)) (places r) (in_order (map m y)) (in_order (map m y')) →
       MeaningRel (Agree (λ t. (flow_of_layer (stm.If v x y) t).live (r t))) (places r) (layer_means setting frame (stm.If v x y)) (layer_means setting frame (stm.If v x' y'))
   choice_rel r v x x' y y' kx ky =
       let live : ℕ → Bool = λ t. reads_temp t v || (lives r x t || lives r y t) in
@@ -215,7 +168,7 @@ module _ (temps : ℕ) (setting : Setting) (frame : Frame) where
   turns_rel r b b' k =
       let start : ℕ → Bool = λ t. live_at_loop (map (flow t) b) (r t) in
       loop_rel (Agree start) (places r) (in_order (map m b)) (in_order (map m b'))
-      (places_weaker (Agree start) (places (in_loop r b)) (within_loop (Agree start) (places r)) _ _ (λ xs ys e. e) (under_block r) (under_start start r)
+      (places_weaker (Agree start) (places (in_loop r b)) (within_loop (Agree start) (places r)) _ _ (λ xs ys e. e) (under_block Agree r) (under_start Agree start r)
       (meaning_weaker (Agree (lives (in_loop r b) b)) (Agree start) (places (in_loop r b)) _ _ (weaker start (lives (in_loop r b) b) (λ t e. settled (λ s. live_in_order (map (flow t) b) (around_loop (r t) s)) e)) k))
 
   pub block_kept_rel : (r : ℕ → Around) (b b' : List Stm) → MeaningRel (Agree (lives (in_block r) b)) (places (in_block r)) (in_order (map m b)) (in_order (map m b')) →
@@ -223,43 +176,40 @@ module _ (temps : ℕ) (setting : Setting) (frame : Frame) where
   block_kept_rel r b b' k =
       let nothing : ℕ → Bool = λ t. false in
       block_rel (Agree (lives (in_block r) b)) (Agree nothing) (places r) (in_order (map m b)) (in_order (map m b'))
-      (places_weaker (Agree (lives (in_block r) b)) (places (in_block r)) (within_block (Agree nothing) (places r)) _ _ (λ xs ys e. e) (under_block r) (under_start nothing r) k)
+      (places_weaker (Agree (lives (in_block r) b)) (places (in_block r)) (within_block (Agree nothing) (places r)) _ _ (λ xs ys e. e) (under_block Agree r) (under_start Agree nothing r) k)
 
   self_layer : (x : Stm-F Stm) → StmChildren IsSelf x → (r : ℕ → Around) → MeaningRel (Agree (λ t. (flow_of_layer x t).live (r t))) (places r) (layer_means setting frame x) (layer_means setting frame x)
-  self_layer (stm.Set u v) h r = let next : ℕ → Bool = λ t. (r t).next in set_rel setting frame (Agree (L (v ∷ []) (Some u) next)) (places r) u u v v (same_in _ v (one_live v (Some u) next)) (writes_on (v ∷ []) u next)
-  self_layer (stm.SetGlobal g v) h r = let next : ℕ → Bool = λ t. (r t).next in set_global_rel setting frame (Agree (L (v ∷ []) None next)) (places r) g v v (same_in _ v (one_live v None next)) (stays (v ∷ []) next)
+  self_layer (stm.Set u v) h r = let next : ℕ → Bool = λ t. (r t).next in set_rel setting frame (Agree (live_at (v ∷ []) (Some u) next)) (places r) u u v v (same_in _ v (one_live v (Some u) next)) (writes_on (v ∷ []) u next)
+  self_layer (stm.SetGlobal g v) h r = let next : ℕ → Bool = λ t. (r t).next in set_global_rel setting frame (Agree (live_at (v ∷ []) None next)) (places r) g v v (same_in _ v (one_live v None next)) (stays (v ∷ []) next)
   self_layer (stm.Divide u o x y) h r =
       let next : ℕ → Bool = λ t. (r t).next in
-      let live : ℕ → Bool = L (x ∷ y ∷ []) (Some u) next in
+      let live : ℕ → Bool = live_at (x ∷ y ∷ []) (Some u) next in
       let all = all_live (x ∷ y ∷ []) (Some u) next in
       divide_rel setting frame (Agree live) (places r) u u o x x y y (same_in live x (first_live live x (y ∷ []) all)) (same_in live y (first_live live y [] (rest_live live x (y ∷ []) all))) (writes_on (x ∷ y ∷ []) u next)
-  self_layer (stm.Check d i) h r = let next : ℕ → Bool = λ t. (r t).next in check_rel setting frame (Agree (L (i ∷ []) None next)) (places r) d i i (same_in _ i (one_live i None next)) (stays (i ∷ []) next)
-  self_layer (stm.Read u d i) h r = let next : ℕ → Bool = λ t. (r t).next in read_rel setting frame (Agree (L (i ∷ []) (Some u) next)) (places r) u u d i i (same_in _ i (one_live i (Some u) next)) (writes_on (i ∷ []) u next)
+  self_layer (stm.Check d i) h r = let next : ℕ → Bool = λ t. (r t).next in check_rel setting frame (Agree (live_at (i ∷ []) None next)) (places r) d i i (same_in _ i (one_live i None next)) (stays (i ∷ []) next)
+  self_layer (stm.Read u d i) h r = let next : ℕ → Bool = λ t. (r t).next in read_rel setting frame (Agree (live_at (i ∷ []) (Some u) next)) (places r) u u d i i (same_in _ i (one_live i (Some u) next)) (writes_on (i ∷ []) u next)
   self_layer (stm.Write d i v) h r =
       let next : ℕ → Bool = λ t. (r t).next in
-      let live : ℕ → Bool = L (i ∷ v ∷ []) None next in
+      let live : ℕ → Bool = live_at (i ∷ v ∷ []) None next in
       let all = all_live (i ∷ v ∷ []) None next in
       write_rel setting frame (Agree live) (places r) d i i v v (same_in live i (first_live live i (v ∷ []) all)) (same_in live v (first_live live v [] (rest_live live i (v ∷ []) all))) (stays (i ∷ v ∷ []) next)
-  self_layer (stm.Zero d) h r = let next : ℕ → Bool = λ t. (r t).next in zero_rel setting frame (Agree (L [] None next)) (places r) d (stays [] next)
+  self_layer (stm.Zero d) h r = let next : ℕ → Bool = λ t. (r t).next in zero_rel setting frame (Agree (live_at [] None next)) (places r) d (stays [] next)
   self_layer (stm.If v x y) h r = choice_rel r v x x y y (self_kids x h.0 r) (self_kids y h.1 r)
   self_layer (stm.Loop b) h r = turns_rel r b b (self_kids b h (in_loop r b))
   self_layer (stm.Block b) h r = block_kept_rel r b b (self_kids b h (in_block r))
-  self_layer (stm.Break k) h r = break_rel setting frame (Agree (L [] None (λ t. (r t).leaves k))) (places r) k (stays [] (λ t. (r t).leaves k))
-  self_layer (stm.Back k) h r = back_rel setting frame (Agree (L [] None (λ t. (r t).restarts k))) (places r) k (stays [] (λ t. (r t).restarts k))
+  self_layer (stm.Break k) h r = break_rel setting frame (Agree (live_at [] None (λ t. (r t).leaves k))) (places r) k (stays [] (λ t. (r t).leaves k))
+  self_layer (stm.Back k) h r = back_rel setting frame (Agree (live_at [] None (λ t. (r t).restarts k))) (places r) k (stays [] (λ t. (r t).restarts k))
   self_layer (stm.Call w f args) h r =
       let next : ℕ → Bool = λ t. (r t).next in
       let reads = callee_trees f ++ args in
-      let live : ℕ → Bool = L reads w next in
+      let live : ℕ → Bool = live_at reads w next in
       let all = all_live reads w next in
       call_rel setting frame (Agree live) (places r) w w f f args args
       (callee_in live (places r) f (λ t e. all t (reads_left t (callee_trees f) args e))) (many_in live (places r) args (λ t e. all t (reads_right t (callee_trees f) args e))) (puts_on reads w r)
   self_layer (stm.Known w k args) h r =
       let next : ℕ → Bool = λ t. (r t).next in
-      known_rel setting frame (Agree (L args w next)) (places r) w w k args args (many_in (L args w next) (places r) args (all_live args w next)) (puts_on args w r)
-  self_layer (stm.Return v) h r = let nothing : ℕ → Bool = λ t. false in return_rel setting frame (Agree (L (v ∷ []) None nothing)) (places r) v v (same_in _ v (one_live v None nothing))
-
-  flows : (x : Stm-F Stm) → (λ t. flow t (roll-Stm x)) ≡ flow_of_layer x
-  flows x = same_functions (λ t. flow t (roll-Stm x)) (flow_of_layer x) (λ t. flow_roll t x)
+      known_rel setting frame (Agree (live_at args w next)) (places r) w w k args args (many_in (live_at args w next) (places r) args (all_live args w next)) (puts_on args w r)
+  self_layer (stm.Return v) h r = let nothing : ℕ → Bool = λ t. false in return_rel setting frame (Agree (live_at (v ∷ []) None nothing)) (places r) v v (same_in _ v (one_live v None nothing))
 
   -- two statements, by their layers
   rolled : (x y : Stm-F Stm) (r : ℕ → Around) → MeaningRel (Agree (λ t. (flow_of_layer x t).live (r t))) (places r) (layer_means setting frame x) (layer_means setting frame y) →
@@ -292,10 +242,10 @@ module _ (temps : ℕ) (setting : Setting) (frame : Frame) where
       abbrev Moved : Rel
       Moved xs ys = Agree behind (slice_set xs x (slice_index xs t)) ys
 
-      passes : (u : ℕ) → (u ≡ x → ⊥) → behind u ≡ true → L reads (Some t) live u ≡ true
+      passes : (u : ℕ) → (u ≡ x → ⊥) → behind u ≡ true → live_at reads (Some t) live u ≡ true
       passes u ne b = live_other reads t live u (other gone u b) (next u (or_right (any_reads u (temp t ∷ [])) _ (ap (λ c. not c && behind u) (ne_eqb x u (λ e. ne (sym e))) ∙ b)))
 
-      moves : Writes setting frame (Agree (L reads (Some t) live)) Moved t x
+      moves : Writes setting frame (Agree (live_at reads (Some t) live)) Moved t x
       moves xs ys v a =
           let there : slice_index (slice_set xs t v) t ≡ v = get_or-set_at xs t t v 0 refl (let k = a.room in omega (arith, k, lt)) in
           subst (λ w. Agree behind (slice_set (slice_set xs t v) x w) (slice_set ys x v)) (sym there) (record {
@@ -316,40 +266,48 @@ module _ (temps : ℕ) (setting : Setting) (frame : Frame) where
             cheaper = omega arith;
           })
 
-      moved_rel : (a b : Stm-F Stm) → MeaningRel (Agree (L reads (Some t) live)) (with_next Moved (Q r behind)) (layer_means setting frame a) (layer_means setting frame b) →
-          MeaningRel (Agree (L reads (Some t) live)) (Q r behind) (in_order (m (roll-Stm a) ∷ m (set x (temp t)) ∷ [])) (in_order (m (roll-Stm b) ∷ []))
+      moved_rel : (a b : Stm-F Stm) → MeaningRel (Agree (live_at reads (Some t) live)) (with_next Moved (Q r behind)) (layer_means setting frame a) (layer_means setting frame b) →
+          MeaningRel (Agree (live_at reads (Some t) live)) (Q r behind) (in_order (m (roll-Stm a) ∷ m (set x (temp t)) ∷ [])) (in_order (m (roll-Stm b) ∷ []))
       moved_rel a b h =
-          append_rel (Agree (L reads (Some t) live)) Moved (Q r behind) (m (roll-Stm a) ∷ []) (m (roll-Stm b) ∷ []) (m (set x (temp t)) ∷ []) []
-          (one_rel (Agree (L reads (Some t) live)) (with_next Moved (Q r behind)) a b h) move
+          append_rel (Agree (live_at reads (Some t) live)) Moved (Q r behind) (m (roll-Stm a) ∷ []) (m (roll-Stm b) ∷ []) (m (set x (temp t)) ∷ []) []
+          (one_rel (Agree (live_at reads (Some t) live)) (with_next Moved (Q r behind)) a b h) move
 
-      divided_rel : (o : ℕ) (a b : Tree) → reads ≡ a ∷ b ∷ [] → MeaningRel (Agree (L reads (Some t) live)) (Q r behind) (in_order (m (roll-Stm (stm.Divide t o a b)) ∷ m (set x (temp t)) ∷ [])) (in_order (m (roll-Stm (stm.Divide x o a b)) ∷ []))
+      divided_rel : (o : ℕ) (a b : Tree) → reads ≡ a ∷ b ∷ [] →
+          MeaningRel (Agree (live_at reads (Some t) live)) (Q r behind)
+          (in_order (m (roll-Stm (stm.Divide t o a b)) ∷ m (set x (temp t)) ∷ [])) (in_order (m (roll-Stm (stm.Divide x o a b)) ∷ []))
       divided_rel o a b is =
-          let all : AllLive (L reads (Some t) live) (a ∷ b ∷ []) = subst (AllLive (L reads (Some t) live)) is (all_live reads (Some t) live) in
+          let all : AllLive (live_at reads (Some t) live) (a ∷ b ∷ []) = subst (AllLive (live_at reads (Some t) live)) is (all_live reads (Some t) live) in
           moved_rel (stm.Divide t o a b) (stm.Divide x o a b)
-          (divide_rel setting frame (Agree (L reads (Some t) live)) (with_next Moved (Q r behind)) t x o a a b b (same_in _ a (first_live _ a (b ∷ []) all)) (same_in _ b (first_live _ b [] (rest_live _ a (b ∷ []) all))) moves)
+          (divide_rel setting frame (Agree (live_at reads (Some t) live)) (with_next Moved (Q r behind)) t x o a a b b (same_in _ a (first_live _ a (b ∷ []) all)) (same_in _ b (first_live _ b [] (rest_live _ a (b ∷ []) all))) moves)
 
-      fetched_rel : (d : Array) (i : Tree) → reads ≡ i ∷ [] → MeaningRel (Agree (L reads (Some t) live)) (Q r behind) (in_order (m (roll-Stm (stm.Read t d i)) ∷ m (set x (temp t)) ∷ [])) (in_order (m (roll-Stm (stm.Read x d i)) ∷ []))
+      fetched_rel : (d : Array) (i : Tree) → reads ≡ i ∷ [] → MeaningRel (Agree (live_at reads (Some t) live)) (Q r behind) (in_order (m (roll-Stm (stm.Read t d i)) ∷ m (set x (temp t)) ∷ [])) (in_order (m (roll-Stm (stm.Read x d i)) ∷ []))
       fetched_rel d i is =
-          let all : AllLive (L reads (Some t) live) (i ∷ []) = subst (AllLive (L reads (Some t) live)) is (all_live reads (Some t) live) in
-          moved_rel (stm.Read t d i) (stm.Read x d i) (read_rel setting frame (Agree (L reads (Some t) live)) (with_next Moved (Q r behind)) t x d i i (same_in _ i (first_live _ i [] all)) moves)
+          let all : AllLive (live_at reads (Some t) live) (i ∷ []) = subst (AllLive (live_at reads (Some t) live)) is (all_live reads (Some t) live) in
+          moved_rel (stm.Read t d i) (stm.Read x d i) (read_rel setting frame (Agree (live_at reads (Some t) live)) (with_next Moved (Q r behind)) t x d i i (same_in _ i (first_live _ i [] all)) moves)
 
-      called_rel : (f : Callee) (args : List Tree) → reads ≡ callee_trees f ++ args → MeaningRel (Agree (L reads (Some t) live)) (Q r behind) (in_order (m (roll-Stm (stm.Call (Some t) f args)) ∷ m (set x (temp t)) ∷ [])) (in_order (m (roll-Stm (stm.Call (Some x) f args)) ∷ []))
+      called_rel : (f : Callee) (args : List Tree) → reads ≡ callee_trees f ++ args →
+          MeaningRel (Agree (live_at reads (Some t) live)) (Q r behind)
+          (in_order (m (roll-Stm (stm.Call (Some t) f args)) ∷ m (set x (temp t)) ∷ [])) (in_order (m (roll-Stm (stm.Call (Some x) f args)) ∷ []))
       called_rel f args is =
           let q = with_next Moved (Q r behind) in
-          let all : AllLive (L reads (Some t) live) (callee_trees f ++ args) = subst (AllLive (L reads (Some t) live)) is (all_live reads (Some t) live) in
+          let all : AllLive (live_at reads (Some t) live) (callee_trees f ++ args) = subst (AllLive (live_at reads (Some t) live)) is (all_live reads (Some t) live) in
           moved_rel (stm.Call (Some t) f args) (stm.Call (Some x) f args)
-          (call_rel setting frame (Agree (L reads (Some t) live)) q (Some t) (Some x) f f args args (callee_in _ q f (λ u e. all u (reads_left u (callee_trees f) args e))) (many_in _ q args (λ u e. all u (reads_right u (callee_trees f) args e))) moves)
+          (call_rel setting frame (Agree (live_at reads (Some t) live)) q (Some t) (Some x) f f args args
+          (callee_in _ q f (λ u e. all u (reads_left u (callee_trees f) args e)))
+          (many_in _ q args (λ u e. all u (reads_right u (callee_trees f) args e))) moves)
 
-      asked_rel : (k : _) (args : List Tree) → reads ≡ args → MeaningRel (Agree (L reads (Some t) live)) (Q r behind) (in_order (m (roll-Stm (stm.Known (Some t) k args)) ∷ m (set x (temp t)) ∷ [])) (in_order (m (roll-Stm (stm.Known (Some x) k args)) ∷ []))
+      asked_rel : (k : _) (args : List Tree) → reads ≡ args →
+          MeaningRel (Agree (live_at reads (Some t) live)) (Q r behind)
+          (in_order (m (roll-Stm (stm.Known (Some t) k args)) ∷ m (set x (temp t)) ∷ [])) (in_order (m (roll-Stm (stm.Known (Some x) k args)) ∷ []))
       asked_rel k args is =
           let q = with_next Moved (Q r behind) in
-          let all : AllLive (L reads (Some t) live) args = subst (AllLive (L reads (Some t) live)) is (all_live reads (Some t) live) in
-          moved_rel (stm.Known (Some t) k args) (stm.Known (Some x) k args) (known_rel setting frame (Agree (L reads (Some t) live)) q (Some t) (Some x) k args args (many_in _ q args all) moves)
+          let all : AllLive (live_at reads (Some t) live) args = subst (AllLive (live_at reads (Some t) live)) is (all_live reads (Some t) live) in
+          moved_rel (stm.Known (Some t) k args) (stm.Known (Some x) k args) (known_rel setting frame (Agree (live_at reads (Some t) live)) q (Some t) (Some x) k args args (many_in _ q args all) moves)
 
     -- a value that is put in its place
     module _ (e v w : Tree) (k : Takes t e v w) where
       abbrev Before : ℕ → Bool
-      Before = L (e ∷ []) (Some t) live
+      Before = live_at (e ∷ []) (Some t) live
 
       abbrev val : Tree → List ℕ → List (List ℕ) → ℕ
       val = value setting.numbers frame.bound
@@ -360,12 +318,12 @@ module _ (temps : ℕ) (setting : Setting) (frame : Frame) where
       -- behind the set, what is live behind it agrees
       still : (xs ys : List ℕ) (globals : List (List ℕ)) → Agree Before xs ys → (u : ℕ) → live u ≡ true → slice_index (filled xs globals) u ≡ slice_index (filled ys globals) u
       still xs ys globals a u l =
-          ap (λ n. slice_index (slice_set xs t n) u) (value_same setting.numbers frame.bound globals xs ys e (λ z b. a.same z (one_live e (Some t) live z b))) ∙
+          ap (λ n. slice_index (slice_set xs t n) u) (value_same setting.numbers frame.bound xs ys globals e (λ z b. a.same z (one_live e (Some t) live z b))) ∙
           both_set xs ys t (val e ys globals) u a.long (λ ne. a.same u (live_other (e ∷ []) t live u ne l))
 
       same_value : (xs ys : List ℕ) (globals : List (List ℕ)) → t < length xs → Agree Before xs ys → ReadLive live v → val v (filled xs globals) globals ≡ val w ys globals
       same_value xs ys globals room a h =
-          value_same setting.numbers frame.bound globals (filled xs globals) (filled ys globals) v (λ u b. still xs ys globals a u (h u b)) ∙
+          value_same setting.numbers frame.bound (filled xs globals) (filled ys globals) globals v (λ u b. still xs ys globals a u (h u b)) ∙
           takes_value setting.numbers frame.bound globals t e v w k ys (let l = a.long in omega (arith, room, l))
 
       two : (y : Stm-F Stm) (bound : Bound) (s : State) →
@@ -376,11 +334,14 @@ module _ (temps : ℕ) (setting : Setting) (frame : Frame) where
 
       taken_rel : (n z : Stm-F Stm) →
           ((bound : Bound) (xs ys : List ℕ) (arrays : List (List ℕ)) (world : World) → Agree Before xs ys →
-          RunRel (Q r behind) (spend (8 + 3 * nodes e) (layer_means setting frame n bound (record { temps = filled xs world.globals; arrays = arrays; world = world }))) (layer_means setting frame z bound (record { temps = ys; arrays = arrays; world = world }))) →
+          RunRel (Q r behind) (spend (8 + 3 * nodes e) (layer_means setting frame n bound (record { temps = filled xs world.globals; arrays = arrays; world = world })))
+          (layer_means setting frame z bound (record { temps = ys; arrays = arrays; world = world }))) →
           MeaningRel (Agree Before) (Q r behind) (in_order (m (set t e) ∷ m (roll-Stm n) ∷ [])) (in_order (m (roll-Stm z) ∷ []))
       taken_rel n z h = from_temps (Agree Before) (Q r behind) _ _ (λ bound xs ys arrays world a.
-          subst (λ d. RunRel (Q r behind) (code_meaning setting frame (set t e ∷ roll-Stm n ∷ []) bound (record { temps = xs; arrays = arrays; world = world })) d) (sym (one_meaning setting frame z bound (record { temps = ys; arrays = arrays; world = world })))
-          (subst (λ d. RunRel (Q r behind) d (layer_means setting frame z bound (record { temps = ys; arrays = arrays; world = world }))) (sym (two n bound (record { temps = xs; arrays = arrays; world = world }))) (h bound xs ys arrays world a)))
+          subst (λ d. RunRel (Q r behind) (code_meaning setting frame (set t e ∷ roll-Stm n ∷ []) bound (record { temps = xs; arrays = arrays; world = world })) d)
+          (sym (one_meaning setting frame z bound (record { temps = ys; arrays = arrays; world = world })))
+          (subst (λ d. RunRel (Q r behind) d (layer_means setting frame z bound (record { temps = ys; arrays = arrays; world = world })))
+          (sym (two n bound (record { temps = xs; arrays = arrays; world = world }))) (h bound xs ys arrays world a)))
 
       less : nodes w ≤ nodes v + nodes e
       less = (taken_less t e v w k).nodes
@@ -477,7 +438,9 @@ module _ (temps : ℕ) (setting : Setting) (frame : Frame) where
         elements_same (array.SureGlobal g n) xs ys arrays world = refl
         elements_same (array.SureLocal l n) xs ys arrays world = refl
 
-        put_in : (d : Array) (xs ys : List ℕ) (arrays : List (List ℕ)) (world : World) (l l' : List ℕ) → Agree behind xs ys → l ≡ l' → StateRel (Agree behind) (with_elements d (record { temps = xs; arrays = arrays; world = world }) l) (with_elements d (record { temps = ys; arrays = arrays; world = world }) l')
+        put_in : (d : Array) (xs ys : List ℕ) (arrays : List (List ℕ)) (world : World) (l l' : List ℕ) → Agree behind xs ys → l ≡ l' →
+            StateRel (Agree behind) (with_elements d (record { temps = xs; arrays = arrays; world = world }) l)
+            (with_elements d (record { temps = ys; arrays = arrays; world = world }) l')
         put_in (array.Global g) xs ys arrays world l l' h q = record { temps = h; arrays = refl; world = ap (λ z. with_global world g z) q }
         put_in (array.Local n) xs ys arrays world l l' h q = record { temps = h; arrays = ap (λ z. slice_set arrays n z) q; world = refl }
         put_in (array.SureGlobal g n) xs ys arrays world l l' h q = record { temps = h; arrays = refl; world = ap (λ z. with_global world g z) q }
@@ -489,13 +452,16 @@ module _ (temps : ℕ) (setting : Setting) (frame : Frame) where
             let G = world.globals in
             let here : State = record { temps = filled xs G; arrays = arrays; world = world } in
             let there : State = record { temps = ys; arrays = arrays; world = world } in
-            let at : val i (filled xs G) G ≡ val i ys G = value_same setting.numbers frame.bound G (filled xs G) ys i (λ u b.
+            let at : val i (filled xs G) G ≡ val i ys G = value_same setting.numbers frame.bound (filled xs G) ys G i (λ u b.
             get_or-set_other xs t u (val e xs G) 0 (λ q. clash u b q) ∙ a.same u (live_other (e ∷ []) t live u (λ q. clash u b q) (next u (or_left _ _ (or_left (reads_temp u i) (any_reads u (v ∷ [])) b))))) in
             let v_is = same_here xs ys G a (λ u b. next u (or_left _ _ (or_right (reads_temp u i) (any_reads u (v ∷ [])) (or_left (reads_temp u v) false b)))) in
             let es = elements_same d (filled xs G) ys arrays world in
             record {
               outcome = either_rel _ _ _ _ _ _ (ap (λ z. ltb z (length (elements d here))) at ∙ ap (λ l. ltb (val i ys G) (length l)) es)
-                  (put_in d (filled xs G) ys arrays world _ _ (kept xs ys G a (λ u b. next u (or_right (any_reads u (i ∷ v ∷ [])) (behind u) b))) (ap (λ z. slice_set (elements d here) z (val v (filled xs G) G)) at ∙ ap (λ z. slice_set (elements d here) (val i ys G) z) v_is ∙ ap (λ l. slice_set l (val i ys G) (val w ys G)) es)) (ap (λ z. outside d z world) at);
+                  (put_in d (filled xs G) ys arrays world _ _ (kept xs ys G a (λ u b. next u (or_right (any_reads u (i ∷ v ∷ [])) (behind u) b)))
+                  (ap (λ z. slice_set (elements d here) z (val v (filled xs G) G)) at ∙
+                  ap (λ z. slice_set (elements d here) (val i ys G) z) v_is ∙ ap (λ l. slice_set l (val i ys G) (val w ys G)) es))
+                  (ap (λ z. outside d z world) at);
               cheaper = omega (arith, less);
             })
           where
@@ -555,7 +521,8 @@ module _ (temps : ℕ) (setting : Setting) (frame : Frame) where
       subst (λ l. MeaningRel (Agree (lives r code)) (places r) (in_order l) (in_order (map m (n ∷ rest)))) (sym (ap (map m) h.is ∙ map_append m h.us h.vs))
       (append_rel (Agree (lives r code)) (Agree behind) (places r) (map m h.us) (m n ∷ []) (map m h.vs) (map m rest) h.first h.others)
 
-  put_related : (r : ℕ → Around) (s y : Stm) (code rest : List Stm) (behind : ℕ → Bool) → IsRelated r code behind rest → MeaningRel (Agree (λ t. (flow t s).live (before r code t))) (places (before r code)) (m s) (m y) → Split r (s ∷ code) (lives r code) y rest
+  put_related : (r : ℕ → Around) (s y : Stm) (code rest : List Stm) (behind : ℕ → Bool) → IsRelated r code behind rest →
+      MeaningRel (Agree (λ t. (flow t s).live (before r code t))) (places (before r code)) (m s) (m y) → Split r (s ∷ code) (lives r code) y rest
   put_related r s y code rest behind h k = record {
     us = s ∷ [];
     vs = code;
@@ -567,7 +534,8 @@ module _ (temps : ℕ) (setting : Setting) (frame : Frame) where
   pub transitive : (r : ℕ → Around) (behind : ℕ → Bool) → Transitive (Q r behind)
   transitive r behind = record { next = agree_trans behind; leaves = λ k. agree_trans (λ t. (r t).leaves k); restarts = λ k. agree_trans (λ t. (r t).restarts k) }
 
-  one_related : (r : ℕ → Around) (s n z : Stm) (code rest : List Stm) (behind : ℕ → Bool) → Split r code behind n rest → IsOne (λ u. (u < temps) × (behind u ≡ false)) s n z → Needs r behind (lives r code) n → Split r (s ∷ code) behind z rest
+  one_related : (r : ℕ → Around) (s n z : Stm) (code rest : List Stm) (behind : ℕ → Bool) → Split r code behind n rest →
+      IsOne (λ u. (u < temps) × (behind u ≡ false)) s n z → Needs r behind (lives r code) n → Split r (s ∷ code) behind z rest
   one_related r s n z code rest behind h k needs = record {
     us = s ∷ h.us;
     vs = h.vs;
@@ -607,7 +575,7 @@ module _ (temps : ℕ) (setting : Setting) (frame : Frame) where
     others = h.others;
   }
 
-  live_at_set : (r : ℕ → Around) (t : ℕ) (e : Tree) (code : List Stm) (u : ℕ) → L (e ∷ []) (Some t) (lives r code) u ≡ true → lives r (set t e ∷ code) u ≡ true
+  live_at_set : (r : ℕ → Around) (t : ℕ) (e : Tree) (code : List Stm) (u : ℕ) → live_at (e ∷ []) (Some t) (lives r code) u ≡ true → lives r (set t e ∷ code) u ≡ true
   live_at_set r t e code u l = ap (λ f. f.live (before r code u)) (flow_roll u (stm.Set t e)) ∙ l
 
   set_passes : (r : ℕ → Around) (t : ℕ) (e : Tree) (code : List Stm) →
@@ -665,9 +633,6 @@ module _ (temps : ℕ) (setting : Setting) (frame : Frame) where
           (weaker (lives r (s ∷ code)) (lives r (s ∷ [])) (λ t e. (jump_stops s j t (r t) (lives r code t)).0 ∙ sym (jump_stops s j t (r t) (r t).next).0 ∙ e))
           (cons_rel (Agree (lives r (s ∷ []))) (Agree (lives r [])) (Q r (lives r [])) (m s) (m s) [] [] (self s (before r []))
           (nil_rel (Agree (lives r [])) (Q r (lives r []))))
-
-  fits_itself : (t : ℕ) (r : Around) → FitsAround every t r r
-  fits_itself t r = record { next = λ e. (e, refl); leaves = λ k e. (e, refl); restarts = λ k e. (e, refl) }
 
   mutual
     left_related : (r : ℕ → Around) (code result : List Stm) (behind : ℕ → Bool) → Left temps r code behind result → IsRelated r code behind result

@@ -4,7 +4,7 @@ use Rattle.std.specs.Prelude.{slice_index, slice_set}
 use Rattle.std.proofs.lemmas.List.{get_or-set_other}
 use Rattle.std.proofs.lemmas.List.Elements.{Contains-append_left, Contains-append_right, Contains-append_cases}
 use Rattle.std.proofs.lemmas.Grind.{get_or-set_at}
-use Rattle.std.proofs.lemmas.Bool.{eq-eqb, eqb-true, or_left, or_right}
+use Rattle.std.proofs.lemmas.Bool.{eqb-true, eqb-false, or_left, or_right}
 use Rattle.mv_num.specs.declared.kind.Kind.{Kind}
 use Rattle.mv_num.specs.Words as word
 use Rattle.mv_num.proofs.Booleans.{or_cases, from_falsity}
@@ -19,7 +19,7 @@ use Rattle.mv_ir.specs.Trees.{Value, tree_value, unary, binary, value, nodes, de
 use Rattle.mv_ir.specs.Measures.{tree_reads}
 use Rattle.mv_ir.specs.Live.{reads_temp}
 use Rattle.mv_ir.specs.Operators as operator
-use Rattle.mv_ir.specs.Rolled.{number, temp}
+use Rattle.mv_ir.specs.Rolled.{number, temp, narrow}
 use Rattle.mv_ir.specs.Rolled as rolled
 use Rattle.mv_ir.proofs.Induction.{TreeChildren, tree_ind}
 use Rattle.mv_ir.proofs.Rolls.{value_roll, nodes_roll, depth_roll, reads_roll, reads_temp_roll}
@@ -27,19 +27,12 @@ use Rattle.mv_fold.proofs.Reached.{eqb_self}
 use Rattle.mv_fold.proofs.Within.{none_among, Less, with, less_right}
 use Rattle.mv_fold.proofs.FoldedWithin.{of_tree}
 use Rattle.mv_plain.specs.Plain as plain
-use Rattle.mv_plain.specs.Plain.{narrow, is_truth, Plainer}
+use Rattle.mv_plain.specs.Plain.{is_truth, Plainer}
 use Rattle.mv_tidy.specs.Tidying.{taking, layer_is_leaf, is_leaf, Takes, whole, truth, twice_truth, narrowed_truth, through}
 use Rattle.mv_tidy.proofs.Equations.{leaf_roll, taking_roll}
 use Rattle.mv_plain.proofs.PlainKept as kept
 
-pub apart : (a b : ℕ) → eqb a b ≡ false → a ≡ b → ⊥
-apart a b o e = let same : eqb a b ≡ true = eq-eqb a b e in let no : false ≡ true = sym o ∙ same in absurd (cc)
-
 -- ---- values
-
--- temporaries that agree where a tree reads them
-abbrev pub AgreeFor : Tree → List ℕ → List ℕ → Type 0
-AgreeFor x xs ys = (t : ℕ) → reads_temp t x ≡ true → slice_index xs t ≡ slice_index ys t
 
 module _ (numbers : List ℕ) (bound : List (ℕ × ℕ)) (globals : List (List ℕ)) where
   abbrev val : Tree → List ℕ → ℕ
@@ -47,24 +40,6 @@ module _ (numbers : List ℕ) (bound : List (ℕ × ℕ)) (globals : List (List 
 
   here : (x : Tree-F Tree) (zs : List ℕ) → val (roll-Tree x) zs ≡ tree_value numbers bound (map-Tree Tree Value (value numbers bound) x) zs globals
   here x zs = ap (λ f. f zs globals) (value_roll numbers bound x)
-
-  module _ (xs ys : List ℕ) where
-    abbrev SameValue : Tree → Type 0
-    SameValue x = AgreeFor x xs ys → val x xs ≡ val x ys
-
-    same_layer : (x : Tree-F Tree) → TreeChildren SameValue x → SameValue (roll-Tree x)
-    same_layer (tree.Number n) h a = here (tree.Number n) xs ∙ sym (here (tree.Number n) ys)
-    same_layer (tree.Temp n) h a = here (tree.Temp n) xs ∙ a n (reads_temp_roll n (tree.Temp n) ∙ eqb_self n) ∙ sym (here (tree.Temp n) ys)
-    same_layer (tree.Global n) h a = here (tree.Global n) xs ∙ sym (here (tree.Global n) ys)
-    same_layer (tree.Function n) h a = here (tree.Function n) xs ∙ sym (here (tree.Function n) ys)
-    same_layer (tree.Unary o x) h a = here (tree.Unary o x) xs ∙ ap (unary o) (h (λ t r. a t (reads_temp_roll t (tree.Unary o x) ∙ r))) ∙ sym (here (tree.Unary o x) ys)
-    same_layer (tree.Binary o x y) h a =
-        here (tree.Binary o x y) xs ∙ ap (λ v. binary o v (val y xs)) (h.0 (λ t r. a t (reads_temp_roll t (tree.Binary o x y) ∙ or_left _ _ r))) ∙
-        ap (binary o (val x ys)) (h.1 (λ t r. a t (reads_temp_roll t (tree.Binary o x y) ∙ or_right _ _ r))) ∙ sym (here (tree.Binary o x y) ys)
-    same_layer (tree.Narrow k x) h a = here (tree.Narrow k x) xs ∙ ap (word.narrow k) (h (λ t r. a t (reads_temp_roll t (tree.Narrow k x) ∙ r))) ∙ sym (here (tree.Narrow k x) ys)
-
-    pub value_same : (x : Tree) → AgreeFor x xs ys → val x xs ≡ val x ys
-    value_same = tree_ind SameValue same_layer
 
   module _ (t : ℕ) (e : Tree) (xs : List ℕ) (room : t < length xs) where
     abbrev put : List ℕ
@@ -78,7 +53,7 @@ module _ (numbers : List ℕ) (bound : List (ℕ × ℕ)) (globals : List (List 
 
     taken_temp : (u : ℕ) (c : Bool) → eqb u t ≡ c → slice_index put u ≡ val (cond c e (temp u)) xs
     taken_temp u true h = get_or-set_at xs t u (val e xs) 0 (eqb-true u t h) room
-    taken_temp u false h = get_or-set_other xs t u (val e xs) 0 (apart u t h) ∙ sym (here (tree.Temp u) xs)
+    taken_temp u false h = get_or-set_other xs t u (val e xs) 0 (eqb-false u t h) ∙ sym (here (tree.Temp u) xs)
 
     taken_layer : (x : Tree-F Tree) → TreeChildren IsTaken x → IsTaken (roll-Tree x)
     taken_layer (tree.Number n) h = here (tree.Number n) put ∙ sym (here (tree.Number n) xs) ∙ there (tree.Number n) _ (taking_roll t e (tree.Number n))
@@ -198,7 +173,8 @@ module _ (t : ℕ) (e : Tree) where
     smaller_layer (tree.Binary o a b) h = record {
       nodes = (let k = ap nodes (taking_roll t e (tree.Binary o a b)) in omega (arith, k, h.0.nodes, h.1.nodes, nodes_roll (tree.Binary o a b), nodes_roll (tree.Binary o (taking t e a) (taking t e b))));
       depth = (let k = ap depth (taking_roll t e (tree.Binary o a b)) in omega (arith, k, h.0.depth, h.1.depth, depth_roll (tree.Binary o a b), depth_roll (tree.Binary o (taking t e a) (taking t e b))));
-      reads = λ g c. both g (Contains-append_cases (tree_reads (taking t e a)) (tree_reads (taking t e b)) g (subst (λ l. Contains l g) (ap tree_reads (taking_roll t e (tree.Binary o a b)) ∙ reads_roll (tree.Binary o (taking t e a) (taking t e b))) c));
+      reads = λ g c. both g (Contains-append_cases (tree_reads (taking t e a)) (tree_reads (taking t e b)) g
+          (subst (λ l. Contains l g) (ap tree_reads (taking_roll t e (tree.Binary o a b)) ∙ reads_roll (tree.Binary o (taking t e a) (taking t e b))) c));
     }
       where
         first : (g : ℕ) → Contains (tree_reads a) g ⊎ Contains (tree_reads e) g → Contains (tree_reads (roll-Tree (tree.Binary o a b))) g ⊎ Contains (tree_reads e) g

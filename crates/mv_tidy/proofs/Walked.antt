@@ -186,7 +186,7 @@ walk_ends temps s now code left kept result none_left w e r seen =
 
 -- ---- how many statements there are
 
-statements_append : (xs ys : List Stm) → statements (xs ++ ys) ≡ statements xs + statements ys
+pub statements_append : (xs ys : List Stm) → statements (xs ++ ys) ≡ statements xs + statements ys
 statements_append xs ys = ap total (map_append stm_size xs ys) ∙ total_append (map stm_size xs) (map stm_size ys)
 
 -- the last of those that are left of some code has no more than the code

@@ -6,6 +6,7 @@ use Rattle.mv_ir.specs.declared.stm.Stm.{Stm, out-Stm}
 use Rattle.mv_ir.specs.declared.stm.Stm.TheOpen.{Stm-F}
 use Rattle.mv_ir.specs.declared.stm.Stm.TheOpen as stm
 use Rattle.mv_ir.specs.Operators as operator
+pub use Rattle.mv_ir.specs.Measures.{is_empty as is_nothing}
 use Rattle.mv_ir.specs.Live.{Around}
 use Rattle.mv_ir.specs.Rolled.{number, temp, unary, binary, set, choose, repeat, enclosed}
 use Rattle.mv_tidy.specs.Tidying.{lives, before, in_loop, in_block}
@@ -22,10 +23,6 @@ abbrev pub is_jump : List Stm → Bool
 is_jump [] = false
 is_jump (s ∷ []) = layer_jumps_only (out-Stm s)
 is_jump (s ∷ t ∷ ss) = false
-
-abbrev pub is_nothing : List Stm → Bool
-is_nothing [] = true
-is_nothing (s ∷ ss) = false
 
 -- the side that a number takes
 abbrev pub taken : ℕ → (x y : List Stm) → List Stm

@@ -7,14 +7,10 @@ use Rattle.mv_ir.specs.declared.stm.Stm.TheOpen as stm
 use Rattle.mv_ir.specs.Live.{Around}
 use Rattle.mv_ir.specs.Rolled.{choose}
 use Rattle.mv_regalloc.specs.Rows.{Bits, Sets, either_bits, live_before, sets, stm_rows}
-use Rattle.mv_regalloc.specs.Shared.{LiveSets, entered, with_live}
+use Rattle.mv_regalloc.specs.Shared.{LiveSets, entered}
 use Rattle.mv_tidy.specs.Tidying.{before}
 use Rattle.mv_tidy.specs.Choosing.{Attached, IsUnread, Chosen, ChosenIn}
-use Rattle.mv_tidy.specs.Walking.{IsGone, IsSeen}
-
--- from behind a statement to its start
-abbrev pub passed : Stm → LiveSets → LiveSets
-passed s l = with_live l ((stm_rows s).live (sets l.around l.live))
+use Rattle.mv_tidy.specs.Walking.{IsGone, IsSeen, passed}
 
 -- what is live where either of two sides begins
 abbrev pub either_before : (a b : List Stm) → Sets → Bits

@@ -14,9 +14,9 @@ use Rattle.mv_ir.specs.declared.stm.Stm.{Stm}
 use Rattle.mv_ir.specs.Measures.{calls}
 use Rattle.mv_ir.specs.Live.{reads_temp, Around, with_after, around_block, around_loop, live_in_order, live_at_loop, flow, nowhere}
 use Rattle.mv_ir.specs.Operators as operator
-use Rattle.mv_ir.specs.Rolled.{number, temp, unary, binary, set, set_global, divide, choose, call, read, write, repeat, enclosed, known}
+use Rattle.mv_ir.specs.Rolled.{number, temp, unary, binary, narrow, set, set_global, divide, choose, call, read, write, repeat, enclosed, known}
 use Rattle.mv_fold.specs.Simple.{jumps}
-use Rattle.mv_plain.specs.Plain.{narrow, is_truth}
+use Rattle.mv_plain.specs.Plain.{is_truth}
 
 -- ---- trees
 

@@ -316,7 +316,7 @@ fn split_last(code: List<Stm>, temp: u32, x: &[Stm], y: &[Stm]) -> Result<Split,
     Ok(Split::Whole(List::from_vec(stms)))
 }
 
-// What is left to do where two sides take in a choice.
+// What is left to do where two sides take in a choice. An arm for each way that they do.
 fn inner(
     alloc: Global,
     parts: Parts,

@@ -33,7 +33,7 @@ fn is_over(temps: u32, temp: u32, set: u32, liveness: &Liveness) -> bool
     is_gone(temps, temp, liveness)
 }
 
-// A statement whose result goes to another temporary.
+// A statement whose result goes to another temporary. An arm for each statement that has one.
 fn moved(
     alloc: Global,
     temps: u32,

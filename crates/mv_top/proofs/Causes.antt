@@ -7,7 +7,7 @@ use Rattle.mv_bindings.specs.declared.action.Action.{Action}
 use Rattle.mv_front.specs.declared.refusal.Refusal.{Refusal}
 use Rattle.mv_command.specs.declared.items.Item.{Item}
 use Rattle.mv_machine.specs.Actions as machine
-use Rattle.mv_operator.specs.Operator.{IsFirstWrong}
+use Rattle.mv_actions.specs.Operator.{IsFirstWrong}
 use Rattle.mv_refine.specs.Built.{Built}
 use Rattle.mv_refine.specs.BuildError.{BuildError}
 use Rattle.mv_refine.specs.BuildError.TheVariants as build_error
@@ -28,6 +28,6 @@ item_cause text items built item r same is wrong = subst (IsNotRun text items) (
 
 -- actions that fit the program fit its image
 pub all_fit : (text : List ℕ) (built : Built) (actions : List Action) → IsBuiltFrom text built → All (λ a. IsTrue (source.fits built.program a)) actions →
-    All (λ a. IsTrue (machine.fits built.image.switches a)) actions
+    All (λ a. IsTrue (machine.fits_rows built.image.switches a)) actions
 all_fit text built actions is fit =
-    All-weaker (λ a. IsTrue (source.fits built.program a)) (λ a. IsTrue (machine.fits built.image.switches a)) (λ a fits. is.image.fits a ∙ fits) actions fit
+    All-weaker (λ a. IsTrue (source.fits built.program a)) (λ a. IsTrue (machine.fits_rows built.image.switches a)) (λ a fits. is.image.fits a ∙ fits) actions fit

@@ -8,7 +8,7 @@ use Rattle.mv_bindings.specs.declared.binding.Event.{Event}
 use Rattle.mv_front.specs.declared.refusal.Refusal.{Refusal}
 use Rattle.mv_gen.specs.Generated.{generated}
 use Rattle.mv_gen_accepted.specs.Accepted.{TextsHaveImages}
-use Rattle.mv_operator.proofs.Acting.{not_both}
+use Rattle.mv_actions.proofs.Acting.{not_both}
 use Rattle.mv_image.specs.Spelling.{Fields}
 use Rattle.mv_io.specs.Outside.{Rose}
 use Rattle.mv_command.specs.declared.command.RunOptions.{RunOptions}
@@ -53,7 +53,7 @@ module _ (was is : Writing) (way way' : Option Way) (Heard : List Event → Type
   -- no read fails where there is no input, and the machine never faults
   stop_is : (p : Program) (image : Fields) (actions : List Action) (steps : ℕ) (log : List Event) (machine : Snapshot) (picks taken later : List ℕ) (s : Stopped) →
       Runs image (polls_of actions) (environment no_input was way) (environment no_input is way') (HeardAs Heard log) machine picks taken later steps s →
-      meant.Does p image actions steps (environment no_input was way) (environment no_input is way') (HeardAs Heard log) machine taken later s →
+      meant.WroteAndTook p image actions steps (environment no_input was way) (environment no_input is way') (HeardAs Heard log) machine taken later s →
       IsTrue (is_summed_up (status_of_stop s) || is_cut_short (status_of_stop s))
   stop_is p image actions steps log machine picks taken later (stop.Ended s) runs does = refl
   stop_is p image actions steps log machine picks taken later (stop.Trapped c) runs does = refl

@@ -9,7 +9,7 @@ use Rattle.mv_exec.specs.declared.loaded.Loaded.{Loaded}
 use Rattle.mv_image.specs.Faults.{Spells}
 use Rattle.mv_image.specs.Spelling.{Fields}
 use Rattle.mv_machine.specs.Acts.{polls_of}
-use Rattle.mv_operator.specs.Operator.{IsImageActions}
+use Rattle.mv_actions.specs.Operator.{IsImageActions}
 use Rattle.mv_refine.specs.declared.execution.Execution.{Execution}
 use Rattle.mv_refine.specs.Environment.{Environment, OneRun}
 use Rattle.mv_refine.specs.Execution.{HasCount, HasDeparture, HeardAs}

@@ -23,8 +23,8 @@ use Rattle.mv_eval.specs.declared.error.EvalError.TheVariants as fault
 use Rattle.mv_command.specs.declared.command.RunOptions.{RunOptions}
 use Rattle.mv_command.specs.declared.options.TheConstants.{DEFAULT_STEPS}
 use Rattle.mv_machine.specs.Acts.{polls_of}
-use Rattle.mv_operator.specs.Operator.{IsImageActions, IsImageFirstWrong}
-use Rattle.mv_operator.proofs.Acting as operator
+use Rattle.mv_actions.specs.Operator.{IsImageActions, IsImageFirstWrong}
+use Rattle.mv_actions.proofs.Acting as operator
 use Rattle.mv_notes.specs.declared.status.Status.{Status}
 use Rattle.mv_notes.specs.declared.status.Status.TheVariants.{Refused, Memory, BadImage, Done}
 use Rattle.mv_gen_accepted.specs.Counted.{CountedPassNone}

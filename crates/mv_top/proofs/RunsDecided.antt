@@ -25,8 +25,8 @@ use Rattle.mv_meaning.specs.declared.meant.End.{End}
 use Rattle.mv_meaning.specs.declared.meant.End.TheVariants.{Exit, Trap, More}
 use Rattle.mv_command.specs.declared.items.Item.{Item}
 use Rattle.mv_command.specs.declared.command.RunOptions.{RunOptions}
-use Rattle.mv_operator.specs.Operator.{IsActions, IsFirstWrong}
-use Rattle.mv_operator.proofs.Acting as operator
+use Rattle.mv_actions.specs.Operator.{IsActions, IsFirstWrong}
+use Rattle.mv_actions.proofs.Acting as operator
 use Rattle.mv_notes.specs.declared.status.Status.{Status}
 use Rattle.mv_notes.specs.declared.status.Status.TheVariants.{Memory, Refused}
 use Rattle.mv_gen_accepted.specs.Counted.{CountedPassNone}
@@ -111,7 +111,7 @@ module _ (before after : Environment) (no_input_fault : ReadFailed before after 
       limit_cause s (inr (n, first, same)) = absurd (operator.not_both p options.items actions n are first)
 
       -- where a run has time enough for an end, it ends so
-      decided : (bytes : List ℕ) (bound : ℕ) (e : End) (stopped : Stopped) → meant.Decides p actions options.steps before after bytes stopped →
+      decided : (bytes : List ℕ) (bound : ℕ) (e : End) (stopped : Stopped) → meant.EndsInTime p actions options.steps before after bytes stopped →
           Ends p actions bytes options.steps bound e → status_of_stop stopped ≡ status_of_end e
       decided bytes bound e stopped decides ends =
           let over : (mean p bytes actions bound).«end» ≡ More → ⊥ = λ more. ends.over (sym ends.comes ∙ more) in
@@ -129,11 +129,11 @@ module _ (before after : Environment) (no_input_fault : ReadFailed before after 
         λ later may bound e ends.
             let one : b.program ≡ p = one_program text b.program p good.program is in
             let same : acts ≡ actions = operator.one_list p options.items acts actions (subst (λ z. IsActions z options.items acts) one are_taken) are in
-            let decides : meant.Decides b.program acts options.steps before after (taken ++ later) x.report.stopped =
+            let decides : meant.EndsInTime b.program acts options.steps before after (taken ++ later) x.report.stopped =
             (each later may).0.decides good.image.behaves good.image.fits told in
-            let here : meant.Decides p actions options.steps before after (taken ++ later) x.report.stopped =
-            subst (λ a. meant.Decides p a options.steps before after (taken ++ later) x.report.stopped) same
-            (subst (λ z. meant.Decides z acts options.steps before after (taken ++ later) x.report.stopped) one decides) in
+            let here : meant.EndsInTime p actions options.steps before after (taken ++ later) x.report.stopped =
+            subst (λ a. meant.EndsInTime p a options.steps before after (taken ++ later) x.report.stopped) same
+            (subst (λ z. meant.EndsInTime z acts options.steps before after (taken ++ later) x.report.stopped) one decides) in
             decided (taken ++ later) bound e x.report.stopped here ends,
       ))
 

@@ -22,7 +22,7 @@ use Rattle.mv_meaning.specs.declared.meant.End.{End}
 use Rattle.mv_eval.specs.Evaluations.{Evaluates}
 use Rattle.mv_eval.specs.declared.error.EvalError.{EvalError}
 use Rattle.mv_command.specs.declared.command.RunOptions.{RunOptions}
-use Rattle.mv_operator.specs.Operator.{IsActions}
+use Rattle.mv_actions.specs.Operator.{IsActions}
 use Rattle.mv_notes.specs.Lines.{asked_lines}
 use Rattle.mv_notes.specs.declared.status.Status.{Status}
 use Rattle.mv_notes.specs.declared.status.Status.TheVariants.{Memory}

@@ -20,7 +20,7 @@ use Rattle.mv_patch.specs.Orders.{values_of}
 use Rattle.mv_io.specs.Outside.{AreToldBytes}
 use Rattle.mv_refine.specs.Environment.{Environment}
 use Rattle.mv_refine.specs.Execution.{IsExecution}
-use Rattle.mv_refine.specs.Meant.{DoesAll, Does}
+use Rattle.mv_refine.specs.Meant.{DoesAll, WroteAndTook}
 use Rattle.mv_refine.specs.Run.{RanTo, Runs}
 use Rattle.mv_refine.proofs.Executed.{kept_bindings}
 use Rattle.mv_refine.specs.declared.execution.Execution.{Execution}
@@ -41,7 +41,7 @@ module _ (p : Program) (image : Fields) (shows : ShowsBindings p image) (actions
         subst (λ (bs : List Binding). CountsWords p bs (line_count (patched_text image machine.room.held))) meant (shows input actions picks steps machine.room.held text)
 
     counts_on : (stopped : Stopped) → Runs image (polls_of actions) before after Heard machine picks taken later steps stopped →
-        Does p image actions steps before after Heard machine taken later stopped → CountsOn p image actions steps machine (taken ++ later) stopped
+        WroteAndTook p image actions steps before after Heard machine taken later stopped → CountsOn p image actions steps machine (taken ++ later) stopped
     counts_on (Ended status) ran does = counted _ _ ran does
     counts_on (Trapped code) ran does = counted _ _ ran does
     counts_on Steps ran does = tt

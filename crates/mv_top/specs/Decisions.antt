@@ -26,7 +26,7 @@ use Rattle.mv_convert.specs.Causes.{IsMemory, IsNotConverted}
 use Rattle.mv_convert.specs.Conversions.{IsConverted}
 use Rattle.mv_convert.specs.declared.error.ConvertError.{ConvertError}
 use Rattle.mv_command.specs.Spelled.{default_steps}
-use Rattle.mv_operator.specs.Operator.{IsActions, IsFirstWrong, IsImageActions, IsImageFirstWrong}
+use Rattle.mv_actions.specs.Operator.{IsActions, IsFirstWrong, IsImageActions, IsImageFirstWrong}
 use Rattle.mv_notes.specs.declared.status.Status.{Status}
 use Rattle.mv_notes.specs.declared.status.Status.TheVariants.{Ended, Trapped, Usage, Refused, Memory, ShelfFault, Steps, BadImage, MachineFault, Done}
 use Rattle.mv_top.specs.Building.{IsBuiltAs}

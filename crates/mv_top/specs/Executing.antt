@@ -7,7 +7,7 @@ use Rattle.mv_exec.specs.declared.error.LoadError.{LoadError}
 use Rattle.mv_exec.specs.declared.error.LoadError.TheVariants as load
 use Rattle.mv_image.specs.Faults.{Spells}
 use Rattle.mv_image.specs.Spelling.{Fields}
-use Rattle.mv_operator.specs.Operator.{IsImageActions, IsImageFirstWrong}
+use Rattle.mv_actions.specs.Operator.{IsImageActions, IsImageFirstWrong}
 use Rattle.mv_refine.specs.declared.execution.Execution.{Execution}
 use Rattle.mv_refine.specs.Environment.{Environment, OneRun}
 use Rattle.mv_machine.specs.Acts.{polls_of}

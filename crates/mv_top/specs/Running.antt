@@ -17,7 +17,7 @@ use Rattle.mv_refine.specs.Environment.{Environment, OneRun}
 use Rattle.mv_refine.specs.Execution.{HeardAs, IsExecution}
 use Rattle.mv_command.specs.declared.items.Item.{Item}
 use Rattle.mv_command.specs.declared.command.RunOptions.{RunOptions}
-use Rattle.mv_operator.specs.Operator.{IsActions, IsFirstWrong}
+use Rattle.mv_actions.specs.Operator.{IsActions, IsFirstWrong}
 use Rattle.mv_top.specs.Counts.{Counts}
 use Rattle.mv_top.specs.WordLines.{CountsOn}
 use Rattle.mv_notes.specs.Lines.{asked_lines}

@@ -4,7 +4,7 @@ ghost use Rattle.std.specs.Prelude.{ℕ, ◌≡◌, List, All, IsTrue};
 ghost use Rattle.mv_command.specs.Commands.{Executes};
 ghost use Rattle.mv_command.specs.Items.{Ascend};
 ghost use Rattle.mv_exec.specs.Loading.{IsLoaded};
-ghost use Rattle.mv_machine.specs.Actions.{fits};
+ghost use Rattle.mv_machine.specs.Actions.{fits_rows};
 ghost use Rattle.mv_probe.specs.Fates.{Fates};
 ghost use Rattle.mv_probe.specs.Hearing.{hearing, object_at, Becomes, IsPatient};
 ghost use Rattle.mv_refine.specs.Environment.{environment, reading, writing};
@@ -45,7 +45,7 @@ fn exec_loaded<I: Source, O: Sink>(
     probes: &mut Vec<Box<dyn Probe>>,
 ) -> Result<Performed, AllocError>
     requires patient { All (λ probe. IsPatient (hearing (told probe) (patience probe))) probes.old.items }
-    requires fit { All (λ action. IsTrue (fits loaded.now.image.switches action)) loaded.now.actions.items }
+    requires fit { All (λ action. IsTrue (fits_rows loaded.now.image.switches action)) loaded.now.actions.items }
     ensures { (bytes : List ℕ) → IsLoaded bytes options.now.items loaded.now → Performs (ExecComes
         (environment (reading (I.left input.old) (I.faults input.old)) (writing (O.written out.old) (O.faults out.old)) (way oracle.old))
         (environment (reading (I.left input.new) (I.faults input.new)) (writing (O.written out.new) (O.faults out.new)) (way oracle.new))

@@ -10,7 +10,7 @@
 //!   these `input` and `out` are unchanged, and no probe is told anything. The files of the shelf are unchanged with each
 //!   command but `build` and the conversions.
 //! - `run FILE` (`specs/Running.antt`): `Refused`: the text is no program; or its program passes a limit, as `mv_build` says; or, behind all these, 15 with the
-//!   number of the first item of LIST that is no action of the program (`mv_operator`). `input` and `out` are unchanged. Each other answer but `Memory` is that
+//!   number of the first item of LIST that is no action of the program (`mv_actions`). `input` and `out` are unchanged. Each other answer but `Memory` is that
 //!   of an execution (`mv_refine`) of an image that `mv_build` gives of the text, with the actions of LIST: there is one image, with its tables and the bodies
 //!   and variants that it is linked of, and one run of it, on the bytes that were taken from `input` and whatever may come behind them, and by the oracle's way
 //!   where that is told. `Ended`, `Trapped` and `Steps` are how this run stands after N instructions, `out` grew by exactly its output, `input` lost exactly

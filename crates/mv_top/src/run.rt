@@ -4,7 +4,7 @@ ghost use Rattle.std.specs.Prelude.{ℕ, ◌≡◌, ◌≤◌, List, All, IfErr,
 ghost use Rattle.mv_command.specs.Commands.{Runs};
 ghost use Rattle.mv_command.specs.Items.{Ascend};
 ghost use Rattle.mv_bindings.specs.declared.binding.Event.{Event};
-ghost use Rattle.mv_machine.specs.Actions.{fits};
+ghost use Rattle.mv_machine.specs.Actions.{fits_rows};
 ghost use Rattle.mv_machine.specs.Snapshots.{Logs};
 ghost use Rattle.mv_notes.specs.Lines.{asked_lines};
 ghost use Rattle.mv_probe.specs.Fates.{Fates};
@@ -15,6 +15,7 @@ ghost use Rattle.mv_top.specs.Outside.{outside, shelved};
 ghost use Rattle.mv_top.specs.Running.{IsCause, IsPrepared, RunComes, status_of_build, status_of_stop};
 
 use crate::files::status_of_shelf;
+use mv_actions::{ActionsError, actions_of};
 use mv_bindings::action::Action;
 use mv_command::{Item, RunOptions};
 use mv_front::Refusal;
@@ -23,7 +24,6 @@ use mv_io::{Shelf, Sink, Source};
 use mv_machine::Stopped;
 use mv_notes::{Performed, Status, lines_of_run};
 use mv_num::list::List;
-use mv_operator::{ActionsError, actions_of};
 use mv_probe::{FetchOracle, Probe};
 use mv_refine::{BuildError, Built, Execution, build, execute};
 use std::alloc::{AllocError, Global};
@@ -40,7 +40,7 @@ pub(crate) struct Prepared {
 fn prepare(alloc: Global, text: &[u8], items: &List<Item>) -> Result<Prepared, BuildError>
     requires { Ascend 0 items.now }
     ensures ok { IfOk result (λ p. IsPrepared text.now items.now p) }
-    ensures fit { IfOk result (λ p. All (λ action. IsTrue (fits p.built.image.switches action)) p.actions.items) }
+    ensures fit { IfOk result (λ p. All (λ action. IsTrue (fits_rows p.built.image.switches action)) p.actions.items) }
     ensures err { IfErr result (λ e. IsCause text.now items.now e) }
 {
     let built = build(alloc, text)?;
@@ -105,7 +105,7 @@ fn run_prepared<I: Source, O: Sink>(
     probes: &mut Vec<Box<dyn Probe>>,
 ) -> Result<Performed, AllocError>
     requires patient { All (λ probe. IsPatient (hearing (told probe) (patience probe))) probes.old.items }
-    requires fit { All (λ action. IsTrue (fits prepared.now.built.image.switches action)) prepared.now.actions.items }
+    requires fit { All (λ action. IsTrue (fits_rows prepared.now.built.image.switches action)) prepared.now.actions.items }
     ensures ran { (text : List ℕ) → IsPrepared text options.now.items prepared.now → Performs (RunComes
         (environment (reading (I.left input.old) (I.faults input.old)) (writing (O.written out.old) (O.faults out.old)) (way oracle.old))
         (environment (reading (I.left input.new) (I.faults input.new)) (writing (O.written out.new) (O.faults out.new)) (way oracle.new))

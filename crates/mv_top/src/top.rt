@@ -26,6 +26,7 @@ use mv_probe::{FetchOracle, Probe};
 use std::alloc::{AllocError, Global};
 
 // Carries out a command, without its notes. An error is want of memory for the lines that it is asked for.
+// An arm for each command.
 fn perform<H: Shelf, I: Source, O: Sink>(
     alloc: Global,
     words: &[String],

@@ -12,7 +12,8 @@ image_of-requires-clause-coded c =
 pub returns-clause-ok : goal.returns-clause-ok
 returns-clause-ok c = record {
   program = refl;
-  image = image_is c.parts_law.ensures.parts c.rows_lead_on.ensures.leads c.images_have_tables.ensures c.images_show_bindings.ensures.shows c.built_programs_behave.ensures c.args.program (record { formed = c.requires.formed; facts = c.requires.facts }) c.in_ok-generics.field-0 c.in_ok-generics.ensures.ok
+  image = image_is c.parts_law.ensures.parts c.rows_lead_on.ensures.leads c.images_have_tables.ensures c.images_show_bindings.ensures.shows c.built_programs_behave.ensures c.args.program
+      (record { formed = c.requires.formed; facts = c.requires.facts }) c.in_ok-generics.field-0 c.in_ok-generics.ensures.ok
       c.in_ok-image.image c.in_ok-image.ensures.ok;
 }
 

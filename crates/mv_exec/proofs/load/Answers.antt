@@ -1,5 +1,5 @@
 use Rattle.std.proofs.Common.{subst}
-use Rattle.mv_operator.specs.Operator.{IsImageRefusedFor}
+use Rattle.mv_actions.specs.Operator.{IsImageRefusedFor}
 use Rattle.mv_exec.proofs.load.Goals as goal
 
 pub returns-in-Err-Refused-clause-err : goal.returns-in-Err-Refused-clause-err

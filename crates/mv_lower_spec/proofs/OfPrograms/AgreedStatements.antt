@@ -136,7 +136,8 @@ module _ (p : Program) (lost fine : Stop → Type 0) (traps : (n : ℕ) → n < 
     valued : (scope inner : Scope) (b c : Bool) (d : Bool → Evaluation ℕ) (next : ℕ → Bool → Evaluation Flow) → Keeps scope d → ((v : ℕ) → Flows scope inner b c (next v)) → Flows scope inner b c (λ z. bind (d z) (λ v. next v z))
     valued scope inner b c d next h k = alike_bind lost fine (Kept scope) (Leads scope inner b c) (Agree scope) d next h k
 
-    tested : (scope : Scope) (b c : Bool) (d : Bool → Evaluation ℕ) (n y : Bool → Evaluation Flow) → Keeps scope d → Flows scope scope b c n → Flows scope scope b c y → Flows scope scope b c (λ z. bind (d z) (λ v. unless_zero v (n z) (y z)))
+    tested : (scope : Scope) (b c : Bool) (d : Bool → Evaluation ℕ) (n y : Bool → Evaluation Flow) → Keeps scope d → Flows scope scope b c n →
+        Flows scope scope b c y → Flows scope scope b c (λ z. bind (d z) (λ v. unless_zero v (n z) (y z)))
     tested scope b c d n y h k q = valued scope scope b c d (λ v z. unless_zero v (n z) (y z)) h (λ v. alike_unless lost fine (Agree scope) (Leads scope scope b c) v n y k q)
 
     around : (scope : Scope) (b c : Bool) (body next : Bool → Evaluation Flow) → Flows scope scope true true body → Flows scope scope b c next → Flows scope scope b c (λ z. bind (body z) (λ flow. after_body flow (next z)))
@@ -248,9 +249,11 @@ module _ (p : Program) (lost fine : Stop → Type 0) (traps : (n : ℕ) → n < 
         Flows scope scope b c (λ z. switch_flow v (map (arm_of p (context z)) arms))
     switched v arms h scope b c q j =
         let left : Bool → Evaluation Flow = λ z. arms_from p (context z) (drop (first_arm v arms) arms) in
-        alike_pointwise lost fine (Agree scope) (Leads scope scope b c) (λ z. switch_flow v (map (arm_of p (context z)) arms)) (λ z. counted (tried_labels v (all_labels arms)).labels (left z)) (λ z. leads_to p (context z) v arms)
+        alike_pointwise lost fine (Agree scope) (Leads scope scope b c) (λ z. switch_flow v (map (arm_of p (context z)) arms))
+        (λ z. counted (tried_labels v (all_labels arms)).labels (left z)) (λ z. leads_to p (context z) v arms)
         (alike_counted lost fine (Agree scope) (Leads scope scope b c) (tried_labels v (all_labels arms)).labels left
-        (alike_bind lost fine (Leads scope scope true c) (Leads scope scope b c) (Agree scope) (bodies (drop (first_arm v arms) arms)) (λ flow z. after_switch flow) (arms_flow (first_arm v arms) arms h scope true c q j) (switch_leads scope b c)))
+        (alike_bind lost fine (Leads scope scope true c) (Leads scope scope b c) (Agree scope) (bodies (drop (first_arm v arms) arms))
+        (λ flow z. after_switch flow) (arms_flow (first_arm v arms) arms h scope true c q j) (switch_leads scope b c)))
 
     -- a statement by its equation
     counts : (scope inner : Scope) (b c : Bool) (s : Stmt) (d : Bool → Evaluation Flow) → ((z : Bool) → flow_of p (context z) s ≡ counted 1 (d z)) → Flows scope inner b c d → Flows scope inner b c (λ z. flow_of p (context z) s)
@@ -268,7 +271,9 @@ module _ (p : Program) (lost fine : Stop → Type 0) (traps : (n : ℕ) → n < 
         counts scope (with_local l scope) b c (roll-Stmt x) (λ z. clear_local l itself (map (value_of p (context z)) values)) (λ z. flow_of-Clear p (context z) (roll-Stmt x) l values (out-roll-Stmt x)) (cleared scope b c l itself values q)
     layer (stmt.Express e) h scope b c q j =
         let x : Stmt-F Stmt Arm = stmt.Express e in
-        counts scope scope b c (roll-Stmt x) (λ z. bind (val e z) (λ v. give Goes)) (λ z. flow_of-Express p (context z) (roll-Stmt x) e (out-roll-Stmt x)) (valued scope scope b c (val e) (λ v z. give Goes) (value scope e q) (λ v. goes scope scope b c))
+        counts scope scope b c (roll-Stmt x) (λ z. bind (val e z) (λ v. give Goes))
+        (λ z. flow_of-Express p (context z) (roll-Stmt x) e (out-roll-Stmt x))
+        (valued scope scope b c (val e) (λ v z. give Goes) (value scope e q) (λ v. goes scope scope b c))
     layer (stmt.If e yes_part no_part) h scope b c q j =
         let x : Stmt-F Stmt Arm = stmt.If e yes_part no_part in
         let q0 = and_cases (names_declared scope e) (all_scoped (map stmt_scoped yes_part) scope && all_scoped (map stmt_scoped no_part) scope) q in

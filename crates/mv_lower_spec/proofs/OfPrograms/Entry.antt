@@ -2,6 +2,7 @@
 use Rattle.std.proofs.Common.{◌≡◌, ℕ, zero, suc, ◌+◌, ◌-◌, ◌<◌, ◌≤◌, ◌⊎◌, inl, inr, Bool, true, false, cond, eqb, List, [], ◌∷◌, ◌++◌, map, length, take, drop, replicate, Option, Some, None, refl, sym, ◌∙◌, ap, arith}
 use Rattle.std.specs.Prelude.{All, slice_index, slice_index_or, slice_get, zip}
 use Rattle.std.proofs.lemmas.Bool.{cases_lt, ltb-true}
+use Rattle.std.proofs.lemmas.Cmp.{nat_eq_equiv}
 use Rattle.std.proofs.lemmas.List.Sums.{sum_by-cons}
 use Rattle.std.proofs.lemmas.List.{length-append, length-map, length-drop, length-replicate}
 use Rattle.mv_ast.specs.declared.program.Program.{Program}
@@ -116,14 +117,11 @@ module _ (p : Program) where
 
   -- ---- what the switches are read as
 
-  swapped : (a b : ℕ) → eqb a b ≡ eqb b a
-  swapped a b = grind arith
-
   pairs_found : (ss vs : List ℕ) (x : ℕ) → found (zip (map (switch_global p) ss) vs) x ≡ value_among p x ss vs
   pairs_found [] vs x = refl
   pairs_found (s ∷ ss) [] x = refl
   pairs_found (s ∷ ss) (v ∷ vs) x =
-      ap (λ o. cond (eqb (switch_global p s) x) (Some v) o) (pairs_found ss vs x) ∙ ap (λ z. cond z (Some v) (value_among p x ss vs)) (swapped (switch_global p s) x)
+      ap (λ o. cond (eqb (switch_global p s) x) (Some v) o) (pairs_found ss vs x) ∙ ap (λ z. cond z (Some v) (value_among p x ss vs)) (nat_eq_equiv.symm (switch_global p s) x)
 
   read_is : (g : Function) (o : Option Binding) (x : ℕ) → found (read_under (map (switch_global p) g.switches) o) x ≡ binding_value p g o x
   read_is g None x = refl

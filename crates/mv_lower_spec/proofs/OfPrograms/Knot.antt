@@ -105,7 +105,9 @@ module _ (p : Program) (numbers : List ℕ) (inner : code_world.Frame) (began : 
       ap (λ k. ran (8 + 3 * k) (Ends (Returned (Some (val (resting ground) (number 0) s)) s.world))) (nodes_number 0) ∙
       ap (λ k. ran 11 (Ends (Returned (Some k) s.world))) (run.val_number (resting ground) 0 s)
 
-  pub ended : (void : Bool) (b : Bound) (xs : List Stm) (s : State) (o : Outcome Frame Flow) → Stays o → FlowShown ground void (out_of void outermost) 0 (code ground xs b s) o → BodyDoes p void inner.live began (call_from (code ground (xs ++ ending void) b s)) o
+  pub ended : (void : Bool) (b : Bound) (xs : List Stm) (s : State) (o : Outcome Frame Flow) → Stays o →
+      FlowShown ground void (out_of void outermost) 0 (code ground xs b s) o →
+      BodyDoes p void inner.live began (call_from (code ground (xs ++ ending void) b s)) o
   ended true b xs s (Came Goes f w work) k h = record {
     cost = h.cost + 0;
     ends = ap call_from (run.joined (setting_of numbers p) inner xs [] b s ∙ ap (λ r. then_do r (code ground [] b)) h.runs) ∙ ap (λ (y : code_world.World). record { cost = h.cost + 0; end = Returned None y }) h.shows.world;
@@ -136,7 +138,9 @@ module _ (p : Program) (numbers : List ℕ) (inner : code_world.Frame) (began : 
   }
   ended false b xs s (Came (Returns v) f w work) k h = record {
     cost = h.cost + 0;
-    ends = ap call_from (run.joined (setting_of numbers p) inner xs (return_with (number 0) ∷ []) b s ∙ ap (λ r. then_do r (code ground (return_with (number 0) ∷ []) b)) h.runs) ∙ ap (λ (y : code_world.World). record { cost = h.cost + 0; end = Returned (Some v) y }) h.shows.world;
+    ends = ap call_from (run.joined (setting_of numbers p) inner xs (return_with (number 0) ∷ []) b s ∙
+        ap (λ r. then_do r (code ground (return_with (number 0) ∷ []) b)) h.runs) ∙
+        ap (λ (y : code_world.World). record { cost = h.cost + 0; end = Returned (Some v) y }) h.shows.world;
     nothing = h.nothing;
     pinned = h.shows.pinned;
     globals = h.shows.globals;
@@ -167,10 +171,14 @@ module _ (p : Program) (numbers : List ℕ) (formed : (f : ℕ) (g : Function) �
   strays_keep scope = leaves.keeps_stop p Nothing Any any_trap scope astray tt
 
   -- a function's body, whatever its frame holds when it begins, in some frame that goes with it
-  pub body_does : (calls : ℕ → Calls) (j : ℕ) → ((i : ℕ) → i ≤ j → Agreed calls i) → (f : ℕ) (g : Function) → slice_get p.functions f ≡ Some g → (inner : code_world.Frame) → OwnIsLive p inner f → (contents : Contents) (vs : List ℕ) → length vs ≡ g.params → (began w : World) →
-      Shows (resting (ground_of p numbers inner began f g)) (entry_frame p f g (entry_state contents (lower_function p g) vs (seen w))) w (entry_state contents (lower_function p g) vs (seen w)) →
+  pub body_does : (calls : ℕ → Calls) (j : ℕ) → ((i : ℕ) → i ≤ j → Agreed calls i) → (f : ℕ) (g : Function) → slice_get p.functions f ≡ Some g →
+      (inner : code_world.Frame) → OwnIsLive p inner f → (contents : Contents) (vs : List ℕ) → length vs ≡ g.params → (began w : World) →
+      Shows (resting (ground_of p numbers inner began f g)) (entry_frame p f g (entry_state contents (lower_function p g) vs (seen w))) w
+      (entry_state contents (lower_function p g) vs (seen w)) →
       Agree (parameters g) (entry_frame p f g (entry_state contents (lower_function p g) vs (seen w))) (frame_of f g vs) →
-      BodyDoes p (is_void g.result) inner.live began (body_from (setting_of numbers p) inner contents (lower_function p g) vs (statements.levels calls j) (seen w)) (flow_of_all p (strict_context p numbers j) g.body (frame_of f g vs) w)
+      BodyDoes p (is_void g.result) inner.live began
+      (body_from (setting_of numbers p) inner contents (lower_function p g) vs (statements.levels calls j) (seen w))
+      (flow_of_all p (strict_context p numbers j) g.body (frame_of f g vs) w)
   body_does calls j ih f g here inner lively contents vs count began w shows same =
       let void = is_void g.result in
       let start = entry_state contents (lower_function p g) vs (seen w) in
@@ -180,8 +188,9 @@ module _ (p : Program) (numbers : List ℕ) (formed : (f : ℕ) (g : Function) �
       let alike =
       function_flows p formed Nothing Any any_trap tt (λ z. strict_context p numbers j) (steady_same p formed Any any_trap tt numbers (fits_call p) (stop astray) strays_keep j) f g h from (frame_of f g vs) w same in
       let shown =
-      body_correct (ground_of p numbers inner began f g) void j calls (strict_context p numbers) (omega arith) strict (λ s. refl) (λ k s. refl) (λ i up. ih i up inner f lively) (known_agrees p numbers inner f lively) (switched_agrees p numbers)
-      g.body h.named h.labels outermost (omega arith) j (omega arith) from w start shows in
+      body_correct (ground_of p numbers inner began f g) void j calls (strict_context p numbers) (omega arith) strict (λ s. refl) (λ k s. refl)
+      (λ i up. ih i up inner f lively) (known_agrees p numbers inner f lively) (switched_agrees p numbers) g.body h.named h.labels outermost
+      (omega arith) j (omega arith) from w start shows in
       same_body p void inner.live began _ (parameters g) (parameters g) false false (body from w) (body (frame_of f g vs) w) alike
       (ended p numbers inner began f g void (statements.levels calls j) (lower_body p.pointers g).code start (body from w) (stays (parameters g) (parameters g) (body from w) (body (frame_of f g vs) w) alike) shown)
 
@@ -206,20 +215,27 @@ module _ (p : Program) (numbers : List ℕ) (formed : (f : ℕ) (g : Function) �
       omega (arith, one)
 
   -- a call of a function, whatever its frame holds
-  pub called_does : (calls : ℕ → Calls) (j : ℕ) → ((i : ℕ) → i ≤ j → Agreed calls i) → (f : ℕ) (g : Function) → slice_get p.functions f ≡ Some g → (contents : Contents) (vs : List ℕ) → length vs ≡ g.params → (w : World) → HasGlobals p w →
-      BodyDoes p (is_void g.result) (frame_for p f g w.depth w).live w (body_from (setting_of numbers p) (frame_for p f g w.depth w) contents (lower_function p g) vs (statements.levels calls j) (seen w)) (flow_of_all p (strict_context p numbers j) g.body (frame_of f g vs) (deeper g w))
+  pub called_does : (calls : ℕ → Calls) (j : ℕ) → ((i : ℕ) → i ≤ j → Agreed calls i) → (f : ℕ) (g : Function) → slice_get p.functions f ≡ Some g →
+      (contents : Contents) (vs : List ℕ) → length vs ≡ g.params → (w : World) → HasGlobals p w →
+      BodyDoes p (is_void g.result) (frame_for p f g w.depth w).live w
+      (body_from (setting_of numbers p) (frame_for p f g w.depth w) contents (lower_function p g) vs (statements.levels calls j) (seen w))
+      (flow_of_all p (strict_context p numbers j) g.body (frame_of f g vs) (deeper g w))
   called_does calls j ih f g here contents vs count w globals =
       body_does calls j ih f g here (frame_for p f g w.depth w) (entry_is_live f g w.depth w here) contents vs count w (deeper g w)
       (shows_entry p f g here (formed f g here) vs count contents w globals numbers)
       (agrees p f g here (formed f g here) vs count contents w globals)
 
   -- and where it calls lowered functions
-  function_does : (j : ℕ) → ((i : ℕ) → i ≤ j → Agreed lowered_calls i) → (f : ℕ) (g : Function) → slice_get p.functions f ≡ Some g → (contents : Contents) (vs : List ℕ) → length vs ≡ g.params → (w : World) → HasGlobals p w →
-      BodyDoes p (is_void g.result) (frame_for p f g w.depth w).live w (body_from (setting_of numbers p) (frame_for p f g w.depth w) contents (lower_function p g) vs (below j) (seen w)) (flow_of_all p (strict_context p numbers j) g.body (frame_of f g vs) (deeper g w))
+  function_does : (j : ℕ) → ((i : ℕ) → i ≤ j → Agreed lowered_calls i) → (f : ℕ) (g : Function) → slice_get p.functions f ≡ Some g →
+      (contents : Contents) (vs : List ℕ) → length vs ≡ g.params → (w : World) → HasGlobals p w →
+      BodyDoes p (is_void g.result) (frame_for p f g w.depth w).live w
+      (body_from (setting_of numbers p) (frame_for p f g w.depth w) contents (lower_function p g) vs (below j) (seen w))
+      (flow_of_all p (strict_context p numbers j) g.body (frame_of f g vs) (deeper g w))
   function_does j ih f g here contents vs count w globals =
-      subst
-      (λ (l : Bound). BodyDoes p (is_void g.result) (frame_for p f g w.depth w).live w (body_from (setting_of numbers p) (frame_for p f g w.depth w) contents (lower_function p g) vs l (seen w)) (flow_of_all p (strict_context p numbers j) g.body (frame_of f g vs) (deeper g w)))
-      (same_levels j) (called_does lowered_calls j ih f g here contents vs count w globals)
+      subst (λ (l : Bound). BodyDoes p (is_void g.result) (frame_for p f g w.depth w).live w
+      (body_from (setting_of numbers p) (frame_for p f g w.depth w) contents (lower_function p g) vs l (seen w))
+      (flow_of_all p (strict_context p numbers j) g.body (frame_of f g vs) (deeper g w))) (same_levels j)
+      (called_does lowered_calls j ih f g here contents vs count w globals)
 
   module _ (frame : code_world.Frame) (own : ℕ) (lively : OwnIsLive p frame own) where
     back : (void : Bool) (live : ℕ) (x : Call) (f : Frame) (w : World) (o : Outcome Frame Flow) → HasGlobals p w → frame.live ≤ live → BodyDoes p void live w x o → CallShown p frame own void x f w (back_in f w o)
@@ -249,11 +265,20 @@ module _ (p : Program) (numbers : List ℕ) (formed : (f : ℕ) (g : Function) �
         let ts = and_cases (nat_eq g.params (length vs)) (same_truth (is_void g.result) void) t in
         let count : length vs ≡ g.params = sym (eqb-true g.params (length vs) ts.0) in
         let result : is_void g.result ≡ void = same (is_void g.result) void ts.1 in
-        subst (λ v. CallShown p frame own v (called (setting_of numbers p) (slice_get codes idx) (below j) vs frame.depth frame.live (seen w)) f w (call_of p (strict_context p numbers j) idx (Some g) vs f w)) result
-        (subst (λ (q : Option Code). CallShown p frame own (is_void g.result) (called (setting_of numbers p) q (below j) vs frame.depth frame.live (seen w)) f w (call_of p (strict_context p numbers j) idx (Some g) vs f w)) (sym (code_is p idx g e))
-        (subst (λ d. CallShown p frame own (is_void g.result) (called (setting_of numbers p) (Some (code_for p g (attributed_before p.functions idx))) (below j) vs d frame.live (seen w)) f w (call_of p (strict_context p numbers j) idx (Some g) vs f w)) hd
-        (subst (λ l. CallShown p frame own (is_void g.result) (called (setting_of numbers p) (Some (code_for p g (attributed_before p.functions idx))) (below j) vs w.depth l (seen w)) f w (call_of p (strict_context p numbers j) idx (Some g) vs f w)) hl
-        (back (is_void g.result) (frame_for p idx g w.depth w).live _ f w (flow_of_all p (strict_context p numbers j) g.body (frame_of idx g vs) (deeper g w)) globals (omega (arith, hl)) (function_does j ih idx g e cleared vs count w globals)))))
+        subst (λ v. CallShown p frame own v (called (setting_of numbers p) (slice_get codes idx) (below j) vs frame.depth frame.live (seen w)) f w
+        (call_of p (strict_context p numbers j) idx (Some g) vs f w)) result
+        (subst (λ (q : Option Code). CallShown p frame own (is_void g.result)
+        (called (setting_of numbers p) q (below j) vs frame.depth frame.live (seen w)) f w
+        (call_of p (strict_context p numbers j) idx (Some g) vs f w)) (sym (code_is p idx g e))
+        (subst (λ d. CallShown p frame own (is_void g.result)
+        (called (setting_of numbers p) (Some (code_for p g (attributed_before p.functions idx))) (below j) vs d frame.live (seen w)) f w
+        (call_of p (strict_context p numbers j) idx (Some g) vs f w)) hd
+        (subst (λ l. CallShown p frame own (is_void g.result)
+        (called (setting_of numbers p) (Some (code_for p g (attributed_before p.functions idx))) (below j) vs w.depth l (seen w)) f w
+        (call_of p (strict_context p numbers j) idx (Some g) vs f w)) hl
+        (back (is_void g.result) (frame_for p idx g w.depth w).live _ f w
+        (flow_of_all p (strict_context p numbers j) g.body (frame_of idx g vs) (deeper g w)) globals (omega (arith, hl))
+        (function_does j ih idx g e cleared vs count w globals)))))
       where
         same : (a b : Bool) → same_truth a b ≡ true → a ≡ b
         same true b q = sym q
@@ -277,6 +302,9 @@ module _ (p : Program) (numbers : List ℕ) (formed : (f : ℕ) (g : Function) �
   all_agreed k = upto k k (omega arith)
 
   -- and so does a function, whatever its frame holds when it begins
-  pub function_is_right : (k f : ℕ) (g : Function) → slice_get p.functions f ≡ Some g → (contents : Contents) (vs : List ℕ) → length vs ≡ g.params → (w : World) → HasGlobals p w →
-      BodyDoes p (is_void g.result) (frame_for p f g w.depth w).live w (body_from (setting_of numbers p) (frame_for p f g w.depth w) contents (lower_function p g) vs (below k) (seen w)) (flow_of_all p (strict_context p numbers k) g.body (frame_of f g vs) (deeper g w))
+  pub function_is_right : (k f : ℕ) (g : Function) → slice_get p.functions f ≡ Some g → (contents : Contents) (vs : List ℕ) → length vs ≡ g.params →
+      (w : World) → HasGlobals p w →
+      BodyDoes p (is_void g.result) (frame_for p f g w.depth w).live w
+      (body_from (setting_of numbers p) (frame_for p f g w.depth w) contents (lower_function p g) vs (below k) (seen w))
+      (flow_of_all p (strict_context p numbers k) g.body (frame_of f g vs) (deeper g w))
   function_is_right k f g here contents vs count w globals = function_does k (λ i up. all_agreed i) f g here contents vs count w globals

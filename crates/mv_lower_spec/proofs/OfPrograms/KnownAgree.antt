@@ -7,7 +7,7 @@ use Rattle.mv_ast.specs.declared.program.Function.{Function}
 use Rattle.mv_ast.specs.declared.program.Known.{Known}
 use Rattle.mv_ast.specs.declared.program.Known.TheVariants.{Getchar, Putchar, Poll, Plan}
 use Rattle.mv_bindings.specs.declared.binding.Binding.{Binding}
-use Rattle.mv_ast.specs.Counts.{patchable}
+use Rattle.mv_ast.specs.Counts.{patchable_places}
 use Rattle.mv_ast.specs.Orders.{Answered, bindings_after, bound_after, rebound, may_commit, acted, polled}
 use Rattle.mv_num.specs.Lists.{is_among}
 use Rattle.mv_ast.specs.Switches.{attributed_functions, attributed_before, switch_global, with_word, binding_value, bound_value}
@@ -70,7 +70,7 @@ module _ (p : Program) (numbers : List ℕ) (frame : code_world.Frame) (own : �
   not_live live e q lt = let z : live ≡ 0 = eqb-true live 0 e in omega (arith, z, q, lt)
 
   ordered_shown : (code index : ℕ) (z : Bool) (f : Frame) (w : World) → may_commit w ≡ z → w.live ≡ frame.live →
-      KnownShown p frame own (at_cost (patch_cost p) (carried code index z (seen_from 0 frame.live (seen w)))) f w (answered (1 + patchable p) (carried code index z w) f w)
+      KnownShown p frame own (at_cost (patch_cost p) (carried code index z (seen_from 0 frame.live (seen w)))) f w (answered (1 + patchable_places p) (carried code index z w) f w)
   ordered_shown code index true f w e q =
       let free : 0 < frame.live → ⊥ = not_live w.live (and_right (nat_eq w.hart 0) (nat_eq w.live 0) e) q in
       record {
@@ -113,7 +113,7 @@ module _ (p : Program) (numbers : List ℕ) (frame : code_world.Frame) (own : �
   polled_is w = ap (λ a. if nat_eq w.live 0 then a else record { answer = 0; world = w }) (acted_is w.actions w)
 
   abbrev source_poll : Bool → Answered → Frame → World → Outcome Frame ℕ
-  source_poll first a f w = answered (if nat_eq a.answer 1 then (if first then 1 + patchable p else 1) else 0) a f w
+  source_poll first a f w = answered (if nat_eq a.answer 1 then (if first then 1 + patchable_places p else 1) else 0) a f w
 
   abbrev code_poll : Bool → Answered → code_world.Answer
   code_poll first a = at_cost (if nat_eq a.answer 1 then (if first then patch_cost p else 30) else 0) a
@@ -172,7 +172,7 @@ module _ (p : Program) (numbers : List ℕ) (frame : code_world.Frame) (own : �
         paid = adopting first;
       }
     where
-      adopting : (z : Bool) → (if z then patch_cost p else 30) ≤ 100 * (if z then 1 + patchable p else 1)
+      adopting : (z : Bool) → (if z then patch_cost p else 30) ≤ 100 * (if z then 1 + patchable_places p else 1)
       adopting true = omega arith
       adopting false = omega arith
 
@@ -198,7 +198,7 @@ module _ (p : Program) (numbers : List ℕ) (frame : code_world.Frame) (own : �
   known_agrees (Plan code index) = λ vs f w hf hl.
       let first = nat_eq w.hart 0 in
       both_tests w
-      (λ x y. KnownShown p frame own (at_cost (patch_cost p) (carried code index (first && x) (seen_from 0 frame.live (seen w)))) f w (answered (1 + patchable p) (carried code index (first && y) w) f w)) hl
+      (λ x y. KnownShown p frame own (at_cost (patch_cost p) (carried code index (first && x) (seen_from 0 frame.live (seen w)))) f w (answered (1 + patchable_places p) (carried code index (first && y) w) f w)) hl
       (ordered_shown code index (may_commit w) f w refl hl)
 
 -- ---- calls through pointer switches

@@ -36,20 +36,24 @@ module _ (p : Program) (formed : (f : ℕ) (g : Function) → slice_get p.functi
   abbrev through : Context → (CType → ℕ → ℕ → Bool) → Evaluation ℕ → CType → ℕ → List ℕ → Evaluation ℕ
   through context lets stray t f vs = if lets t f (length vs) then call_at context f vs else stray
 
-  numbered_is : (context : Context) (lets : CType → ℕ → ℕ → Bool) (stray : Evaluation ℕ) (t : CType) (f : ℕ) (vs : List ℕ) → context.lets ≡ lets → context.stray ≡ stray → call_numbered context t (Some f) vs ≡ through context lets stray t f vs
+  numbered_is : (context : Context) (lets : CType → ℕ → ℕ → Bool) (stray : Evaluation ℕ) (t : CType) (f : ℕ) (vs : List ℕ) → context.lets ≡ lets →
+      context.stray ≡ stray → call_numbered context t (Some f) vs ≡ through context lets stray t f vs
   numbered_is context lets stray t f vs e q = ap (λ l. through context l context.stray t f vs) e ∙ ap (λ s. through context lets s t f vs) q
 
   -- ---- the same on both sides
 
   module _ (lets : CType → ℕ → ℕ → Bool) (stray : Evaluation ℕ) (keeps : (scope : Scope) → leaves.Keeps p Nothing fine traps scope {A = ℕ} (λ z. stray)) where
-    numbered : (scope : Scope) (context : Bool → Context) → ((z : Bool) → (context z).lets ≡ lets) → ((z : Bool) → (context z).stray ≡ stray) → ((n : ℕ) (vs : List ℕ) → leaves.Keeps p Nothing fine traps scope {A = ℕ} (λ z. (context z).call n vs)) →
+    numbered : (scope : Scope) (context : Bool → Context) → ((z : Bool) → (context z).lets ≡ lets) → ((z : Bool) → (context z).stray ≡ stray) →
+        ((n : ℕ) (vs : List ℕ) → leaves.Keeps p Nothing fine traps scope {A = ℕ} (λ z. (context z).call n vs)) →
         (t : CType) (o : Option ℕ) (vs : List ℕ) → leaves.Keeps p Nothing fine traps scope {A = ℕ} (λ z. call_numbered (context z) t o vs)
     numbered scope context e q calls t None vs =
         alike_by Nothing fine (Agree scope) (leaves.Kept p Nothing fine traps scope {A = ℕ}) (λ z. call_numbered (context z) t None vs) (λ z. stray) (q true) (q false) (keeps scope)
     numbered scope context e q calls t (Some f) vs =
-        alike_by Nothing fine (Agree scope) (leaves.Kept p Nothing fine traps scope {A = ℕ}) (λ z. call_numbered (context z) t (Some f) vs) (λ z. through (context z) lets stray t f vs)
-        (numbered_is (context true) lets stray t f vs (e true) (q true)) (numbered_is (context false) lets stray t f vs (e false) (q false))
-        (alike_either Nothing fine (Agree scope) (leaves.Kept p Nothing fine traps scope {A = ℕ}) (lets t f (length vs)) (λ z. call_at (context z) f vs) (λ z. stray) (leaves.keeps_call p Nothing fine traps scope context calls f vs) (keeps scope))
+        alike_by Nothing fine (Agree scope) (leaves.Kept p Nothing fine traps scope {A = ℕ}) (λ z. call_numbered (context z) t (Some f) vs)
+        (λ z. through (context z) lets stray t f vs) (numbered_is (context true) lets stray t f vs (e true) (q true))
+        (numbered_is (context false) lets stray t f vs (e false) (q false))
+        (alike_either Nothing fine (Agree scope) (leaves.Kept p Nothing fine traps scope {A = ℕ}) (lets t f (length vs))
+        (λ z. call_at (context z) f vs) (λ z. stray) (leaves.keeps_call p Nothing fine traps scope context calls f vs) (keeps scope))
 
     pub steady_same : (k : ℕ) → Steady p Nothing fine traps (λ z. context_with p numbers lets stray k)
     steady_same k = steady_at p formed Nothing fine traps more numbers (λ z. lets) (λ z. stray) numbered k
@@ -68,7 +72,9 @@ module _ (p : Program) (formed : (f : ℕ) (g : Function) → slice_get p.functi
   strays : (scope : Scope) (d : Evaluation ℕ) → leaves.Keeps p Astray fine traps scope {A = ℕ} (either_side (stop astray) d)
   strays scope d f g w h = lost_alike Astray fine (leaves.Kept p Astray fine traps scope {A = ℕ}) astray w 0 (d g w) refl
 
-  numbered_both : (scope : Scope) (context : Bool → Context) → ((z : Bool) → (context z).lets ≡ both_lets z) → ((z : Bool) → (context z).stray ≡ both_strays z) → ((n : ℕ) (vs : List ℕ) → leaves.Keeps p Astray fine traps scope {A = ℕ} (λ z. (context z).call n vs)) →
+  numbered_both : (scope : Scope) (context : Bool → Context) → ((z : Bool) → (context z).lets ≡ both_lets z) →
+      ((z : Bool) → (context z).stray ≡ both_strays z) →
+      ((n : ℕ) (vs : List ℕ) → leaves.Keeps p Astray fine traps scope {A = ℕ} (λ z. (context z).call n vs)) →
       (t : CType) (o : Option ℕ) (vs : List ℕ) → leaves.Keeps p Astray fine traps scope {A = ℕ} (λ z. call_numbered (context z) t o vs)
   numbered_both scope context e q calls t None vs =
       alike_by Astray fine (Agree scope) (leaves.Kept p Astray fine traps scope {A = ℕ}) (λ z. call_numbered (context z) t None vs) (either_side (stop astray) (give 0)) (q true) (q false) (strays scope (give 0))

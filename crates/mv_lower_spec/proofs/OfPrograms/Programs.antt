@@ -79,7 +79,8 @@ admitted p formed s f signature here typed =
     let g : Function = typed.function in
     let same : typed.signature ≡ signature = cc in
     let h : IsWellFormedFunction p f g = formed.functions f g typed.defined in
-    let long : length signature.params ≡ g.params = ap (λ (x : Signature). length x.params) (sym same) ∙ ap length typed.parameters ∙ length-map (take g.params g.locals) (λ (l : Local). l.ctype) ∙ length-take g.params g.locals ∙ omega (arith, h.parameters_there) in
+    let long : length signature.params ≡ g.params = ap (λ (x : Signature). length x.params) (sym same) ∙ ap length typed.parameters ∙
+    length-map (take g.params g.locals) (λ (l : Local). l.ctype) ∙ length-take g.params g.locals ∙ omega (arith, h.parameters_there) in
     let void : is_void signature.result ≡ is_void g.result = ap (λ (x : Signature). is_void x.result) (sym same) ∙ ap is_void typed.result in
     ap (λ o. takes o (length signature.params) (is_void signature.result)) typed.defined ∙
     ap (λ b. b && same_truth (is_void g.result) (is_void signature.result)) (eq-eqb g.params (length signature.params) (sym long)) ∙
@@ -108,8 +109,10 @@ stops_there stops.Unfinished w work o scope inner b c h e = refl
 
 -- ---- a run
 
-executed_is : (p : Program) (first : code_world.World) (void : Bool) (before : World) (x : Call) (o q : Outcome Frame Flow) (scope inner : Scope) (b c : Bool) → void ≡ false → AlikeOutcome Nothing NotAstray Flow (Leads scope inner b c) q q → meaning_of o ≡ meaning_of q →
-    BodyDoes p void 0 before x o → IsExecution (meaning_of o) (execution_of first x.cost x.end)
+executed_is : (p : Program) (first : code_world.World) (void : Bool) (before : World) (x : Call) (o q : Outcome Frame Flow) (scope inner : Scope)
+    (b c : Bool) →
+    void ≡ false → AlikeOutcome Nothing NotAstray Flow (Leads scope inner b c) q q → meaning_of o ≡ meaning_of q → BodyDoes p void 0 before x o →
+    IsExecution (meaning_of o) (execution_of first x.cost x.end)
 executed_is p first void before x (Came flow f w work) q scope inner b c nv k e h =
     subst (λ (y : Call). IsExecution (meaning_of (Came flow f w work)) (execution_of first y.cost y.end)) (sym (h.ends ∙ ap (λ z. record { cost = h.cost; end = Returned (unless_void z (returned_value flow)) (seen w) }) nv))
     (record { output = refl; taken = refl; ending = refl; bindings = refl; log = refl; paid = h.paid })
@@ -125,8 +128,9 @@ pub record EndAlike (x z : Call) : Type 0 where
   pub same : x.end ≡ z.end
   pub valued : (w : code_world.World) → x.end ≡ Returned None w → ⊥
 
-ends_alike : (p : Program) (void : Bool) (before : World) (x z : Call) (o q : Outcome Frame Flow) (scope inner : Scope) (b c : Bool) → void ≡ false → AlikeOutcome Nothing NotAstray Flow (Leads scope inner b c) q q → meaning_of o ≡ meaning_of q →
-    BodyDoes p void 0 before x o → BodyDoes p void 0 before z o → EndAlike x z
+ends_alike : (p : Program) (void : Bool) (before : World) (x z : Call) (o q : Outcome Frame Flow) (scope inner : Scope) (b c : Bool) → void ≡ false →
+    AlikeOutcome Nothing NotAstray Flow (Leads scope inner b c) q q → meaning_of o ≡ meaning_of q → BodyDoes p void 0 before x o →
+    BodyDoes p void 0 before z o → EndAlike x z
 ends_alike p void before x z (Came flow f w work) q scope inner b c nv k e h g =
     let ends = λ (y : Call) (d : BodyDoes p void 0 before y (Came flow f w work)). ap (λ (u : Call). u.end) d.ends ∙ ap (λ v. Returned (unless_void v (returned_value flow)) (seen w)) nv in
     record { same = ends x h ∙ sym (ends z g); valued = λ u none. some_value (returned_value flow) (seen w) u (sym (ends x h) ∙ none) }
@@ -213,8 +217,10 @@ module _ (p : Program) (numbers : List ℕ) (formed : IsWellFormed p) (numbering
 
   plain_stops : AlikeOutcome Nothing NotAstray Flow (Leads (parameters main) (parameters main) false false) (came (context_at p numbers bound)) (came (context_at p numbers bound))
   plain_stops =
-      function_flows p formed.functions Nothing NotAstray trap_not_astray refl (λ z. context_at p numbers bound) (steady_same p formed.functions NotAstray trap_not_astray refl numbers all_reached (give 0) zero_keeps bound) p.main main (formed.functions p.main main here)
-      (frame_of p.main main []) (frame_of p.main main []) first (agree_refl (parameters main) (frame_of p.main main []))
+      function_flows p formed.functions Nothing NotAstray trap_not_astray refl (λ z. context_at p numbers bound)
+      (steady_same p formed.functions NotAstray trap_not_astray refl numbers all_reached (give 0) zero_keeps bound) p.main main
+      (formed.functions p.main main here) (frame_of p.main main []) (frame_of p.main main []) first
+      (agree_refl (parameters main) (frame_of p.main main []))
 
   -- so `main` does what the program means
   pub main_is_right : (calls : ℕ → Calls) → ((i : ℕ) → i ≤ bound → Agreed p numbers formed.functions calls i) → (contents : Contents) →

@@ -148,8 +148,13 @@ module _ (p : Program) (globals : Globals) (g : Function) (asked : IsAsked p glo
 
   -- ---- names
 
-  names : FunctionPaid globals g none 0 (Named globals.scalars globals.arrays (limits.is_there globals locals)) (λ declared. named_rules (allowed globals locals sizes (room_of globals.pointers g) none 0 declared)) (named_blocks globals.scalars globals.arrays (limits.is_there globals locals))
-  names = function_paid globals g none 0 (Named globals.scalars globals.arrays (limits.is_there globals locals)) (λ declared. named_rules (allowed globals locals sizes (room_of globals.pointers g) none 0 declared)) (named_blocks globals.scalars globals.arrays (limits.is_there globals locals)) asked.within
+  names : FunctionPaid globals g none 0 (Named globals.scalars globals.arrays (limits.is_there globals locals))
+      (λ declared. named_rules (allowed globals locals sizes (room_of globals.pointers g) none 0 declared))
+      (named_blocks globals.scalars globals.arrays (limits.is_there globals locals))
+  names =
+      function_paid globals g none 0 (Named globals.scalars globals.arrays (limits.is_there globals locals))
+      (λ declared. named_rules (allowed globals locals sizes (room_of globals.pointers g) none 0 declared))
+      (named_blocks globals.scalars globals.arrays (limits.is_there globals locals)) asked.within
 
   pub scalars_within : Each (λ k. globals.scalars k ≡ true) (scalars_read b.code)
   scalars_within = names.made.scalars tt
@@ -159,8 +164,14 @@ module _ (p : Program) (globals : Globals) (g : Function) (asked : IsAsked p glo
 
   -- ---- calls and counts
 
-  abbrev counting : (direct : ℕ → ℕ) (through : ℕ) → FunctionPaid globals g direct through (Counted direct through) (λ declared. counted_rules direct through (allowed globals locals sizes (room_of globals.pointers g) direct through declared) refl refl) (counted_blocks direct through)
-  counting direct through = function_paid globals g direct through (Counted direct through) (λ declared. counted_rules direct through (allowed globals locals sizes (room_of globals.pointers g) direct through declared) refl refl) (counted_blocks direct through) asked.within
+  abbrev counting : (direct : ℕ → ℕ) (through : ℕ) →
+      FunctionPaid globals g direct through (Counted direct through)
+      (λ declared. counted_rules direct through (allowed globals locals sizes (room_of globals.pointers g) direct through declared) refl refl)
+      (counted_blocks direct through)
+  counting direct through =
+      function_paid globals g direct through (Counted direct through)
+      (λ declared. counted_rules direct through (allowed globals locals sizes (room_of globals.pointers g) direct through declared) refl refl)
+      (counted_blocks direct through) asked.within
 
   pub lowered_calls : CallsAsOften program g b
   lowered_calls = record {
@@ -196,7 +207,8 @@ module _ (p : Program) (globals : Globals) (g : Function) (asked : IsAsked p glo
   has_targets : HasTargets (false ∷ []) b.code
   has_targets =
       targets_append (false ∷ []) (lower_body globals.pointers g).code (ending (is_void g.result))
-      (code_targets globals locals sizes (is_void g.result) g.body params asked.within false false asked.jumps outermost (false ∷ []) (record { leave = λ e. from_falsity e; again = λ e. from_falsity e; around = omega arith })) (last (is_void g.result))
+      (code_targets globals locals sizes (is_void g.result) g.body params asked.within false false asked.jumps outermost (false ∷ [])
+      (record { leave = λ e. from_falsity e; again = λ e. from_falsity e; around = omega arith })) (last (is_void g.result))
     where
       last : (void : Bool) → HasTargets (false ∷ []) (ending void)
       last true = refl

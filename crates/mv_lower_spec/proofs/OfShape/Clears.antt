@@ -79,7 +79,9 @@ module _ (globals : Globals) (locals : ℕ) (sizes : ℕ → Option ℕ) (room :
             (store_values locals size l 0 (map (lower_expr globals.pointers) es) ++ store_zeros size l (length (map (lower_expr globals.pointers) es)) (words_of_size size - length (map (lower_expr globals.pointers) es))))
         by true e =
             let p = stores_paid 0 es b top in
-            stmt_paid (1 + p.units) (7 + p.words) (2 + p.nodes) (r.weaken (omega arith) (omega arith) (omega arith) (omega arith) (r.chain clear_paid p.made)) (omega (arith, p.few_units)) (omega (arith, p.few_nodes)) (omega (arith, p.few_words))
+            stmt_paid (1 + p.units) (7 + p.words) (2 + p.nodes)
+            (r.weaken (omega arith) (omega arith) (omega arith) (omega arith) (r.chain clear_paid p.made)) (omega (arith, p.few_units))
+            (omega (arith, p.few_nodes)) (omega (arith, p.few_words))
         by false e =
             let p = stores_paid 0 es b top in
             let words = words_of_size size in

@@ -103,14 +103,39 @@ module _ (direct : ℕ → ℕ) (through : ℕ) where
           record { units = omega (arith, ls, h.units); words = omega (arith, lw, h.words); nodes = omega (arith, lt, h.nodes); weight = h.weight ∙ e; weighed = h.weighed };
     }
 
-  enclosing : {s w t k : ℕ} {ts : List Tree} {xs : List Stm} (x : Stm-F Stm) (more : ℕ) → stm_allowance (roll-Stm x) ≡ more + allowance xs → stm_size (roll-Stm x) ≡ suc (statements xs) → stm_calls (roll-Stm x) ≡ calls xs → trees (roll-Stm x ∷ []) ≡ trees xs → stm_weight direct through (roll-Stm x) ≡ code_weight direct through xs → stm_weight each_once 1 (roll-Stm x) ≡ code_weight each_once 1 xs →
+  enclosing : {s w t k : ℕ} {ts : List Tree} {xs : List Stm} (x : Stm-F Stm) (more : ℕ) → stm_allowance (roll-Stm x) ≡ more + allowance xs →
+      stm_size (roll-Stm x) ≡ suc (statements xs) → stm_calls (roll-Stm x) ≡ calls xs → trees (roll-Stm x ∷ []) ≡ trees xs →
+      stm_weight direct through (roll-Stm x) ≡ code_weight direct through xs → stm_weight each_once 1 (roll-Stm x) ≡ code_weight each_once 1 xs →
       Counted s w t k ts xs [] → Counted (s + 1) (w + more) t k ts (roll-Stm x ∷ []) []
-  enclosing x more allowed size measure same weight weighed h = record { units = omega (arith, size, measure, h.units); words = omega (arith, allowed, h.words); nodes = omega (arith, ap nodes_of_all same, h.nodes); weight = omega (arith, weight, h.weight); weighed = omega (arith, measure, weighed, h.weighed) }
+  enclosing x more allowed size measure same weight weighed h =
+      record {
+        units = omega (arith, size, measure, h.units);
+        words = omega (arith, allowed, h.words);
+        nodes = omega (arith, ap nodes_of_all same, h.nodes);
+        weight = omega (arith, weight, h.weight);
+        weighed = omega (arith, measure, weighed, h.weighed);
+      }
 
   pub counted_blocks : BlockRules Counted
   counted_blocks = record {
-    block = λ {s} {w} {t} {k} {ts} {xs} h. subst (λ n. Counted (s + 1) n t k ts (roll-Stm (stm.Block xs) ∷ []) []) (add-zero w) (enclosing (stm.Block xs) 0 (allowance_roll (stm.Block xs) ∙ sym (zero-add (allowance xs))) (size_roll (stm.Block xs)) (calls_roll (stm.Block xs)) (trees_one (stm.Block xs)) (weight_roll direct through (stm.Block xs)) (weight_roll each_once 1 (stm.Block xs)) h);
-    turns = λ {s} {w} {t} {k} {xs} h. enclosing (stm.Loop xs) 1 (allowance_roll (stm.Loop xs)) (size_roll (stm.Loop xs)) (calls_roll (stm.Loop xs)) (trees_one (stm.Loop xs)) (weight_roll direct through (stm.Loop xs)) (weight_roll each_once 1 (stm.Loop xs)) h;
-    leaves = λ n. record { units = omega (arith, size_roll (stm.Break n), calls_roll (stm.Break n)); words = omega (arith, allowance_roll (stm.Break n)); nodes = omega (arith, ap nodes_of_all (trees_one (stm.Break n))); weight = omega (arith, weight_roll direct through (stm.Break n)); weighed = omega (arith, calls_roll (stm.Break n), weight_roll each_once 1 (stm.Break n)) };
-    returns = λ v. record { units = omega (arith, size_roll (stm.Return v), calls_roll (stm.Return v)); words = omega (arith, allowance_roll (stm.Return v)); nodes = omega (arith, ap nodes_of_all (trees_one (stm.Return v))); weight = omega (arith, weight_roll direct through (stm.Return v)); weighed = omega (arith, calls_roll (stm.Return v), weight_roll each_once 1 (stm.Return v)) };
+    block = λ {s} {w} {t} {k} {ts} {xs} h. subst (λ n. Counted (s + 1) n t k ts (roll-Stm (stm.Block xs) ∷ []) []) (add-zero w)
+        (enclosing (stm.Block xs) 0 (allowance_roll (stm.Block xs) ∙ sym (zero-add (allowance xs))) (size_roll (stm.Block xs))
+        (calls_roll (stm.Block xs)) (trees_one (stm.Block xs)) (weight_roll direct through (stm.Block xs))
+        (weight_roll each_once 1 (stm.Block xs)) h);
+    turns = λ {s} {w} {t} {k} {xs} h. enclosing (stm.Loop xs) 1 (allowance_roll (stm.Loop xs)) (size_roll (stm.Loop xs)) (calls_roll (stm.Loop xs))
+        (trees_one (stm.Loop xs)) (weight_roll direct through (stm.Loop xs)) (weight_roll each_once 1 (stm.Loop xs)) h;
+    leaves = λ n. record {
+      units = omega (arith, size_roll (stm.Break n), calls_roll (stm.Break n));
+      words = omega (arith, allowance_roll (stm.Break n));
+      nodes = omega (arith, ap nodes_of_all (trees_one (stm.Break n)));
+      weight = omega (arith, weight_roll direct through (stm.Break n));
+      weighed = omega (arith, calls_roll (stm.Break n), weight_roll each_once 1 (stm.Break n));
+    };
+    returns = λ v. record {
+      units = omega (arith, size_roll (stm.Return v), calls_roll (stm.Return v));
+      words = omega (arith, allowance_roll (stm.Return v));
+      nodes = omega (arith, ap nodes_of_all (trees_one (stm.Return v)));
+      weight = omega (arith, weight_roll direct through (stm.Return v));
+      weighed = omega (arith, calls_roll (stm.Return v), weight_roll each_once 1 (stm.Return v));
+    };
   }

@@ -209,7 +209,10 @@ module _ (globals : Globals) (locals : ℕ) (sizes : ℕ → Option ℕ) (room :
     words = p.words + 0 + 5 + 1;
     nodes = p.nodes + 1 + 5 + 1;
     gives = same_weight (lower_change op kind c (InLocal l) v) (omega (arith, h.free))
-        (given.gives_set_local a B rules locals room scratch l _ (h.stored d) (operators.gives_changed a B rules locals room scratch op kind c (lower_local l) v (given.second_stays a B rules locals room scratch (lower_local l) (λ m. temp_low l) (given.gives_local a B rules locals room scratch l (h.read e) (h.used e))) p.gives));
+        (given.gives_set_local a B rules locals room scratch l _ (h.stored d)
+        (operators.gives_changed a B rules locals room scratch op kind c (lower_local l) v
+        (given.second_stays a B rules locals room scratch (lower_local l) (λ m. temp_low l)
+        (given.gives_local a B rules locals room scratch l (h.read e) (h.used e))) p.gives));
     few_units = omega (arith, p.few_units);
     few_nodes = omega (arith, p.few_nodes);
     few_words = omega (arith, p.few_words);
@@ -219,7 +222,10 @@ module _ (globals : Globals) (locals : ℕ) (sizes : ℕ → Option ℕ) (room :
     words = p.words + 0 + 5 + 3;
     nodes = p.nodes + 1 + 5 + 2;
     gives = same_weight (lower_change op kind c (InGlobal g) v) (omega (arith, h.free))
-        (given.gives_set_global a B rules locals room scratch g _ (h.stored d) (operators.gives_changed a B rules locals room scratch op kind c (lower_global g) v (given.second_stays a B rules locals room scratch (lower_global g) (λ m. global_low g) (given.gives_global a B rules locals room scratch g (h.read e))) p.gives));
+        (given.gives_set_global a B rules locals room scratch g _ (h.stored d)
+        (operators.gives_changed a B rules locals room scratch op kind c (lower_global g) v
+        (given.second_stays a B rules locals room scratch (lower_global g) (λ m. global_low g)
+        (given.gives_global a B rules locals room scratch g (h.read e))) p.gives));
     few_units = omega (arith, p.few_units);
     few_nodes = omega (arith, p.few_nodes);
     few_words = omega (arith, p.few_words);
@@ -232,8 +238,11 @@ module _ (globals : Globals) (locals : ℕ) (sizes : ℕ → Option ℕ) (room :
         words = index.words + (p.words + 9 + 5) + 14;
         nodes = index.nodes + (p.nodes + 1 + 5) + 5;
         gives = λ m le top. rules.weaken (omega arith) (omega arith) (omega arith) (omega arith)
-            (given.gives_set_element a B rules locals room scratch r i (lower_changed op kind c (lower_element r (m + 1)) v) m el.named index.gives le top
-            (operators.gives_changed a B rules locals room scratch op kind c (lower_element r (m + 1)) v (given.second_stays a B rules locals room scratch (lower_element r (m + 1)) temp_low (given.gives_element a B rules locals room scratch r (m + 1) el.named el.read)) p.gives (m + 2) (omega (arith, le)) (omega (arith, top))));
+            (given.gives_set_element a B rules locals room scratch r i (lower_changed op kind c (lower_element r (m + 1)) v) m el.named index.gives le
+            top (operators.gives_changed a B rules locals room scratch op kind c (lower_element r (m + 1)) v
+            (given.second_stays a B rules locals room scratch (lower_element r (m + 1)) temp_low
+            (given.gives_element a B rules locals room scratch r (m + 1) el.named el.read)) p.gives (m + 2) (omega (arith, le))
+            (omega (arith, top))));
         few_units = omega (arith, index.few_units, p.few_units);
         few_nodes = omega (arith, index.few_nodes, p.few_nodes);
         few_words = omega (arith, index.few_words, p.few_words);
@@ -312,8 +321,11 @@ module _ (globals : Globals) (locals : ℕ) (sizes : ℕ → Option ℕ) (room :
         units = x.units + 1 + xs.units;
         words = x.words + 1 + xs.words;
         nodes = x.nodes + 1 + xs.nodes;
-        give = subst (λ m. given.AllGive a B rules locals room scratch (x.units + 1 + xs.units) (x.words + 1 + xs.words) (x.nodes + 1 + xs.nodes) m (map (λ (x : Part). x.lower) (map (part_of globals.pointers) (e ∷ es)))) (sym (sum_cons (weight e) (map weight es)))
-            (given.more_give a B rules locals room scratch (lower_expr globals.pointers e) (map (λ (x : Part). x.lower) (map (part_of globals.pointers) es)) x.gives xs.give);
+        give = subst (λ m. given.AllGive a B rules locals room scratch (x.units + 1 + xs.units) (x.words + 1 + xs.words) (x.nodes + 1 + xs.nodes) m
+            (map (λ (x : Part). x.lower) (map (part_of globals.pointers) (e ∷ es))))
+            (sym (sum_cons (weight e) (map weight es)))
+            (given.more_give a B rules locals room scratch (lower_expr globals.pointers e)
+            (map (λ (x : Part). x.lower) (map (part_of globals.pointers) es)) x.gives xs.give);
         few_units = omega (arith, x.few_units, xs.few_units, n);
         few_nodes = omega (arith, x.few_nodes, xs.few_nodes, n);
         few_words = omega (arith, x.few_words, xs.few_words, n);
@@ -321,7 +333,16 @@ module _ (globals : Globals) (locals : ℕ) (sizes : ℕ → Option ℕ) (room :
 
   -- of so many nodes or more, and of so much weight
   paid_as : {n k n' k' : ℕ} (l : Lowering) → n ≤ n' → k ≡ k' → Paid n k l → Paid n' k' l
-  paid_as l le e p = record { units = p.units; words = p.words; nodes = p.nodes; gives = same_weight l e p.gives; few_units = omega (arith, le, p.few_units); few_nodes = omega (arith, le, p.few_nodes); few_words = omega (arith, le, p.few_words) }
+  paid_as l le e p =
+      record {
+        units = p.units;
+        words = p.words;
+        nodes = p.nodes;
+        gives = same_weight l e p.gives;
+        few_units = omega (arith, le, p.few_units);
+        few_nodes = omega (arith, le, p.few_nodes);
+        few_words = omega (arith, le, p.few_words);
+      }
 
   one_paid : {n k : ℕ} (f : Tree → Tree) (x : Lowering) → given.OnOne f → Paid n k x → Paid (1 + n) k (lower_one f x)
   one_paid f x on p = record {

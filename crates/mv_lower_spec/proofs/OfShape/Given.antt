@@ -151,12 +151,14 @@ module _ (a : Allowed) (B : ℕ → ℕ → ℕ → ℕ → List Tree → List S
       let keep = is_empty (second y n).code && is_low (x n).tree in
       join (kept keep n (x n) le topx (hx n le (omega (arith, topx, kept_top keep n (x n))))) (hy n le topy)
 
-  pub gives_two : {s w t k s' w' t' k' : ℕ} {ts : List Tree} (f : Tree → Tree → Tree) (x y : Lowering) → OnTwo f → Gives s w t k x → SecondGives ts s' w' t' k' y → GivesFrom ts (s + s' + 1) (w + w' + 1) (t + t' + 3) (k + k') (lower_two f x y)
+  pub gives_two : {s w t k s' w' t' k' : ℕ} {ts : List Tree} (f : Tree → Tree → Tree) (x y : Lowering) → OnTwo f → Gives s w t k x →
+      SecondGives ts s' w' t' k' y → GivesFrom ts (s + s' + 1) (w + w' + 1) (t + t' + 3) (k + k') (lower_two f x y)
   gives_two f x y op hx hy n le top =
       rules.weaken (omega arith) (omega arith) (omega arith) refl
       (retreed (op (first x y n).tree (second y n).tree) (operands x y hx hy n le (omega (arith, top)) (omega (arith, top))))
 
-  pub gives_division : {s w t k s' w' t' k' : ℕ} {ts : List Tree} (turned : Bool) (o : ℕ) (x y : Lowering) → Gives s w t k x → SecondGives ts s' w' t' k' y → GivesFrom ts (s + s' + 2) (w + w' + 5) (t + t' + 2) (k + k') (lower_division turned o x y)
+  pub gives_division : {s w t k s' w' t' k' : ℕ} {ts : List Tree} (turned : Bool) (o : ℕ) (x y : Lowering) → Gives s w t k x →
+      SecondGives ts s' w' t' k' y → GivesFrom ts (s + s' + 2) (w + w' + 5) (t + t' + 2) (k + k') (lower_division turned o x y)
   gives_division {s} {w} {t} {k} {s'} {w'} {t'} {k'} {ts} turned o x y hx hy n le top =
       let u = first x y n in
       let v = second y n in

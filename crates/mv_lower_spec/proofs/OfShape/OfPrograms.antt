@@ -1,7 +1,7 @@
 -- A function of a well-formed program is within all limits, with the sets of the globals that it reads.
 use Rattle.std.proofs.Common.{◌≡◌, ℕ, zero, suc, ◌≤◌, Bool, true, false, not, List, [], ◌∷◌, map, length, refl, sym, ◌∙◌, ap, subst, arith, Some}
 use Rattle.std.specs.Prelude.{◌&&◌, ◌||◌, All, sum, nat_eq, nat_lt, slice_get}
-use Rattle.std.proofs.lemmas.Bool.{lt-ltb, ltb-true, eqb-true, and_from, or_left, or_right}
+use Rattle.std.proofs.lemmas.Bool.{lt-ltb, ltb-true, eqb-true, not-true, and_from, or_left, or_right}
 use Rattle.std.proofs.lemmas.List.Elements.{All-nil, All-cons}
 use Rattle.mv_ast.specs.declared.program.Program.{Program}
 use Rattle.mv_ast.specs.declared.program.Function.{Function}
@@ -153,17 +153,13 @@ module _ (p : Program) (f : ℕ) (g : Function) (h : IsFunctionOf p f g) where
       by true q e = or_left (reads_array g k) (reads_scalar g k) (and_cases (not (is_own_switch p (slice_get p.functions f) k)) (reads_array g k) q).1
       by false q e = or_right (reads_array g k) (reads_scalar g k) (and_cases (is_among k p.pointers) (reads_scalar g k) (and_cases (nat_lt k count) (is_among k p.pointers && reads_scalar g k) e).1).1
 
-  is_false : (b : Bool) → not b ≡ true → b ≡ false
-  is_false true e = from_falsity e
-  is_false false e = refl
-
   never_switch : (k : ℕ) → own.arrays k ≡ true → is_among k (map (switch_global p) g.switches) ≡ false
   never_switch k e = by (is_array k) refl e
     where
       by : (z : Bool) → is_array k ≡ z → (z || is_called k) ≡ true → is_among k (map (switch_global p) g.switches) ≡ false
       by true q e =
           sym (ap (λ o. is_own_switch p o k) h.there) ∙
-          is_false (is_own_switch p (slice_get p.functions f) k) (and_cases (not (is_own_switch p (slice_get p.functions f) k)) (reads_array g k) q).0
+          not-true (is_own_switch p (slice_get p.functions f) k) (and_cases (not (is_own_switch p (slice_get p.functions f) k)) (reads_array g k) q).0
       by false q e =
           let among = (and_cases (is_among k p.pointers) (reads_scalar g k) (and_cases (nat_lt k count) (is_among k p.pointers && reads_scalar g k) e).1).0 in
           not_switch k (one_pointer k p.pointers h.formed.typed.pointers among) g.switches typed.switches

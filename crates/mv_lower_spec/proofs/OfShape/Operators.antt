@@ -104,10 +104,12 @@ module _ (a : Allowed) (B : ℕ → ℕ → ℕ → ℕ → List Tree → List S
   by_test true x y h k = h
   by_test false x y h k = k
 
-  operator : {s w t k s' w' t' k' : ℕ} {ts : List Tree} (turned : Bool) (f : Tree → Tree → Tree) (x y : Lowering) → OnTwo f → GivesFrom [] s w t k x → SecondGives ts s' w' t' k' y → GivesFrom ts (s + s' + 1) (w + w' + 1) (t + t' + 3) (k + k') (lower_operator turned f x y)
+  operator : {s w t k s' w' t' k' : ℕ} {ts : List Tree} (turned : Bool) (f : Tree → Tree → Tree) (x y : Lowering) → OnTwo f → GivesFrom [] s w t k x →
+      SecondGives ts s' w' t' k' y → GivesFrom ts (s + s' + 1) (w + w' + 1) (t + t' + 3) (k + k') (lower_operator turned f x y)
   operator turned f x y on h h' = given.gives_two a B rules locals room scratch (λ u v. cond turned (f v u) (f u v)) x y (turned_two turned f on) h h'
 
-  pub gives_binary : {s w t k s' w' t' k' : ℕ} {ts : List Tree} (turned : Bool) (op : ℕ) (c : CType) (x y : Lowering) → GivesFrom [] s w t k x → SecondGives ts s' w' t' k' y → GivesFrom ts (s + s' + 2) (w + w' + 5) (t + t' + 3) (k + k') (lower_binary turned op c x y)
+  pub gives_binary : {s w t k s' w' t' k' : ℕ} {ts : List Tree} (turned : Bool) (op : ℕ) (c : CType) (x y : Lowering) → GivesFrom [] s w t k x →
+      SecondGives ts s' w' t' k' y → GivesFrom ts (s + s' + 2) (w + w' + 5) (t + t' + 3) (k + k') (lower_binary turned op c x y)
   gives_binary {s} {w} {t} {k} {s'} {w'} {t'} {k'} {ts} turned op c x y h h' =
       by_test (nat_lt op 17) (lower_product turned op c x y) (lower_operator turned (bit_tree op c) x y)
       (by_test (nat_eq op 12) _ _ (plain 0) (by_test (nat_eq op 13) _ _ (plain 1) (by_test (nat_eq op 14) _ _ (plain 2)
@@ -124,7 +126,8 @@ module _ (a : Allowed) (B : ℕ → ℕ → ℕ → ℕ → List Tree → List S
       division o n le top = rules.weaken (omega arith) (omega arith) (omega arith) (omega arith) (given.gives_division a B rules locals room scratch turned o x y h h' n le top)
 
   -- the new value of a compound assignment: what is computed is put away to be converted, but for a quotient, which stands in a temporary
-  pub gives_changed : {s w t k s' w' t' k' : ℕ} {ts : List Tree} (op : ℕ) (kind c : CType) (old x : Lowering) → SecondGives ts s' w' t' k' old → GivesFrom [] s w t k x → GivesFrom ts (s + s' + 2) (w + w' + 5) (t + t' + 5) (k + k') (lower_changed op kind c old x)
+  pub gives_changed : {s w t k s' w' t' k' : ℕ} {ts : List Tree} (op : ℕ) (kind c : CType) (old x : Lowering) → SecondGives ts s' w' t' k' old →
+      GivesFrom [] s w t k x → GivesFrom ts (s + s' + 2) (w + w' + 5) (t + t' + 5) (k + k') (lower_changed op kind c old x)
   gives_changed {s} {w} {t} {k} {s'} {w'} {t'} {k'} {ts} op kind c old x ho hx =
       changed (nat_lt op 17) (lower_product true op kind x old) (lower_operator true (bit_tree op kind) x old)
       (changed (nat_eq op 12) _ _ (plain 0) (changed (nat_eq op 13) _ _ (plain 1) (changed (nat_eq op 14) _ _ (plain 2)

@@ -1,6 +1,6 @@
 -- A lowered expression calls through the pointer switches that a test picks as often as the source does.
 use Rattle.std.proofs.Common.{◌≡◌, ℕ, ◌+◌, Bool, true, false, ◌&&◌, cond, List, [], ◌∷◌, ◌++◌, map, Option, Some, None, refl, ◌∙◌, ap, arith}
-use Rattle.std.specs.Prelude.{if◌then◌else◌, nat_eq, nat_lt, sum}
+use Rattle.std.specs.Prelude.{nat_eq, nat_lt, sum}
 use Rattle.mv_ir.specs.declared.tree.Tree.{Tree}
 use Rattle.mv_ir.specs.declared.stm.Callee.{Callee}
 use Rattle.mv_ir.specs.declared.stm.Callee.TheVariants as callee
@@ -21,6 +21,7 @@ use Rattle.mv_ast.specs.declared.program.Form.TheOpen as form
 use Rattle.mv_ast.specs.declared.program.Target.{Target, Target-F}
 use Rattle.mv_ast.specs.Counts.{Calling, target_calling, form_calling, inner_calling, expr_calling, lvalue_calling, expr_calls_through}
 use Rattle.mv_num.specs.Lists.{is_among}
+use Rattle.mv_num.specs.Words.{as_word as one_where}
 use Rattle.mv_num.proofs.Lists.{sum_cons}
 use Rattle.mv_source_forms.specs.Names.{is_void}
 use Rattle.mv_source_forms.proofs.ExpressionFolds.{ExprFolds, expr_fold, expr_folds, along_exprs}
@@ -40,9 +41,6 @@ sum_two m n = omega (arith, sum_cons m (n ∷ []), sum_one n)
 
 sum_three : (k m n : ℕ) → sum (k ∷ m ∷ n ∷ []) ≡ k + m + n
 sum_three k m n = omega (arith, sum_cons k (m ∷ n ∷ []), sum_two m n)
-
-abbrev one_where : Bool → ℕ
-one_where b = if b then 1 else 0
 
 not_picked : (a : Bool) → one_where (a && false) ≡ 0
 not_picked true = refl
@@ -90,7 +88,16 @@ module _ (test : ℕ → Bool) where
       let x = first a b n in
       let y = second b n in
       let last : Stm-F Stm = stm.Divide n o (cond turned y.tree x.tree) (cond turned x.tree y.tree) in
-      omega (arith, through_append x.code (y.code ++ roll-Stm last ∷ []), through_append y.code (roll-Stm last ∷ []), through_one last, through_kept (is_empty y.code && is_low (a n).tree) n (a n), through_kept (is_low (b (n + 1)).tree) (n + 1) (b (n + 1)), ha n, hb (n + 1))
+      omega (
+        arith,
+        through_append x.code (y.code ++ roll-Stm last ∷ []),
+        through_append y.code (roll-Stm last ∷ []),
+        through_one last,
+        through_kept (is_empty y.code && is_low (a n).tree) n (a n),
+        through_kept (is_low (b (n + 1)).tree) (n + 1) (b (n + 1)),
+        ha n,
+        hb (n + 1),
+      )
 
   by_test : (z : Bool) (k : ℕ) (a b : Lowering) → Calls k a → Calls k b → Calls k (cond z a b)
   by_test true k a b h h' = h

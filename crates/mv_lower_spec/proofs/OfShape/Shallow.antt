@@ -73,7 +73,9 @@ module _ (pointers : List ℕ) (locals : ℕ) where
   shallow_clear : (size : Option ℕ) (l : ℕ) (itself : Bool) (es : List Expr) (j : Jumps) → ShallowCode (lower_clear locals size l itself (map (lower_expr pointers) es) j).code
   shallow_clear size l itself es j =
       by (itself || nat_le (8 * words_of_size size) (92 * (words_of_size size - length (map (lower_expr pointers) es))))
-      (both_parts (clear_words size l ∷ []) stores (shallow_cleared size l) (shallow_values size l 0 es)) (both_parts stores zeros (shallow_values size l 0 es) (shallow_zeros size l (length (map (lower_expr pointers) es)) (words_of_size size - length (map (lower_expr pointers) es))))
+      (both_parts (clear_words size l ∷ []) stores (shallow_cleared size l) (shallow_values size l 0 es))
+      (both_parts stores zeros (shallow_values size l 0 es)
+      (shallow_zeros size l (length (map (lower_expr pointers) es)) (words_of_size size - length (map (lower_expr pointers) es))))
     where
       stores : List Stm
       stores = store_values locals size l 0 (map (lower_expr pointers) es)
@@ -154,7 +156,8 @@ module _ (pointers : List ℕ) (locals : ℕ) where
         let x = expr_shallow pointers e locals in
         let yes = (lowered yes_part j).code in
         let other = (lowered no_part j).code in
-        both_parts (lower_expr pointers e locals).code (choose (lower_expr pointers e locals).tree yes other ∷ []) x.code (shallow_choose (lower_expr pointers e locals).tree yes other x.tree (all_shallow yes_part h.0 j) (all_shallow no_part h.1 j))
+        both_parts (lower_expr pointers e locals).code (choose (lower_expr pointers e locals).tree yes other ∷ []) x.code
+        (shallow_choose (lower_expr pointers e locals).tree yes other x.tree (all_shallow yes_part h.0 j) (all_shallow no_part h.1 j))
     layer (stmt.While e body) h j =
         let code = (lowered body (in_body j)).code in
         shallow_loop (test_and_body locals (lower_expr pointers e) (enclosed code ∷ [])) (test_and (lower_expr pointers e) (enclosed code ∷ []) (expr_shallow pointers e locals) (shallow_block code (all_shallow body h (in_body j))))

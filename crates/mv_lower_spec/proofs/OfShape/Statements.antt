@@ -49,26 +49,14 @@ module _ (globals : Globals) (locals : ℕ) (sizes : ℕ → Option ℕ) (void :
   value declared = clears.value globals locals sizes room direct through declared B (rules declared)
 
   code_as : {n k n' k' : ℕ} {xs : List Stm} → n ≤ n' → k ≡ k' → CodePaid n k xs → CodePaid n' k' xs
-  code_as le e p = record {
-    units = p.units;
-    words = p.words;
-    nodes = p.nodes;
-    made = r.weaken (omega arith) (omega arith) (omega arith) e p.made;
-    few_units = omega (arith, le, p.few_units);
-    few_nodes = omega (arith, le, p.few_nodes);
-    few_words = omega (arith, le, p.few_words);
-  }
+  code_as le e p =
+      paid p.units p.words p.nodes (r.weaken (omega arith) (omega arith) (omega arith) e p.made) (omega (arith, le, p.few_units))
+      (omega (arith, le, p.few_nodes)) (omega (arith, le, p.few_words))
 
   stmt_as : {n k n' k' : ℕ} {xs : List Stm} → n ≤ n' → k ≡ k' → StmtPaid n k xs → StmtPaid n' k' xs
-  stmt_as le e p = record {
-    units = p.units;
-    words = p.words;
-    nodes = p.nodes;
-    made = r.weaken (omega arith) (omega arith) (omega arith) e p.made;
-    few_units = omega (arith, le, p.few_units);
-    few_nodes = omega (arith, le, p.few_nodes);
-    few_words = omega (arith, le, p.few_words);
-  }
+  stmt_as le e p =
+      stmt_paid p.units p.words p.nodes (r.weaken (omega arith) (omega arith) (omega arith) e p.made) (omega (arith, le, p.few_units))
+      (omega (arith, le, p.few_nodes)) (omega (arith, le, p.few_words))
 
   nothing : CodePaid 0 0 []
   nothing = paid 0 0 0 (r.retree (covers_none [])) (omega arith) (omega arith) (omega arith)
@@ -163,8 +151,11 @@ module _ (globals : Globals) (locals : ℕ) (sizes : ℕ → Option ℕ) (void :
         let k = sum_cons (stmt_weight direct through s) (map (stmt_weight direct through) body) in
         let first = h.0 declared bs.0 j (omega (arith, top)) in
         let others = all_paid body h.1 (scope.behind declared) bs.1 j (omega (arith, top)) in
-        paid (first.units + others.units + 2) (first.words + others.words + 4) (first.nodes + others.nodes + 4) (r.weaken (omega arith) (omega arith) (omega arith) (omega (arith, k)) (entered i (lowered (s ∷ body) j).code (r.chain first.made others.made)))
-        (omega (arith, first.few_units, others.few_units, n)) (omega (arith, first.few_nodes, others.few_nodes, n)) (omega (arith, first.few_words, others.few_words, n))
+        paid (first.units + others.units + 2) (first.words + others.words + 4) (first.nodes + others.nodes + 4)
+        (r.weaken (omega arith) (omega arith) (omega arith) (omega (arith, k))
+        (entered i (lowered (s ∷ body) j).code (r.chain first.made others.made)))
+        (omega (arith, first.few_units, others.few_units, n)) (omega (arith, first.few_nodes, others.few_nodes, n))
+        (omega (arith, first.few_words, others.few_words, n))
 
   pub record ArmPaid (v : (LoweredArm × ArmScope) × (ℕ × ℕ)) : Type 0 where
     pub inner : ℕ
@@ -235,7 +226,15 @@ module _ (globals : Globals) (locals : ℕ) (sizes : ℕ → Option ℕ) (void :
   optional_paid v None declared b top = record { units = 0; words = 0; nodes = 1; made = r.retree (covers_number v); few_units = omega arith; few_nodes = omega arith; few_words = omega arith }
   optional_paid v (Some e) declared b top =
       let p = value declared e b top in
-      record { units = p.units; words = p.words; nodes = p.nodes; made = r.weaken (omega arith) (omega arith) (omega arith) (omega arith) p.made; few_units = omega (arith, p.few_units); few_nodes = omega (arith, p.few_nodes); few_words = omega (arith, p.few_words) }
+      record {
+        units = p.units;
+        words = p.words;
+        nodes = p.nodes;
+        made = r.weaken (omega arith) (omega arith) (omega arith) (omega arith) p.made;
+        few_units = omega (arith, p.few_units);
+        few_nodes = omega (arith, p.few_nodes);
+        few_words = omega (arith, p.few_words);
+      }
 
   -- one that is evaluated for its effect
   effect_paid : (v : ℕ) (e : Option Expr) (declared : ℕ → Bool) → optional_within globals locals sizes e declared ≡ true → (lower_optional globals.pointers v e locals).top ≤ room →
@@ -246,7 +245,8 @@ module _ (globals : Globals) (locals : ℕ) (sizes : ℕ → Option ℕ) (void :
       paid p.units p.words p.nodes (r.weaken (omega arith) (omega arith) (omega arith) (omega arith) (dropped r p.made)) (omega (arith, p.few_units)) (omega (arith, p.few_nodes)) (omega (arith, p.few_words))
 
   -- the turn of a loop: a test that leaves it, and some code where it doesn't
-  test_paid : {s w t k s' w' t' k' : ℕ} {body : List Stm} (l : Lowering) → B s' w' t' k' [] (l locals).code ((l locals).tree ∷ []) → B s w t k [] body [] → B (s' + (s + 1 + 1)) (w' + (w + 1 + 3)) (t' + t) (k' + k) [] (test_and_body locals l body) []
+  test_paid : {s w t k s' w' t' k' : ℕ} {body : List Stm} (l : Lowering) → B s' w' t' k' [] (l locals).code ((l locals).tree ∷ []) →
+      B s w t k [] body [] → B (s' + (s + 1 + 1)) (w' + (w + 1 + 3)) (t' + t) (k' + k) [] (test_and_body locals l body) []
   test_paid l p h = r.weaken (omega arith) (omega arith) (omega arith) (omega arith) (r.chain p (r.choose (l locals).tree h (blocks.leaves 0)))
 
   layer : (x : Stmt-F Stmt Arm) → StmtChildren S A x → Pays (counted.stmt_layer x)
@@ -321,5 +321,9 @@ module _ (globals : Globals) (locals : ℕ) (sizes : ℕ → Option ℕ) (void :
   pub body_paid : (body : List Stmt) (declared : ℕ → Bool) → all_within (scopes body) declared ≡ true → (j : Jumps) → (lowered body j).top ≤ room →
       CodePaid (sum (map stmt_nodes body)) (sum (map (stmt_weight direct through) body)) (lowered body j).code
   body_paid body =
-      all_paid body
-      (along_stmts counted (λ s. Pays) (λ a. ArmPaid) layer (λ x h. record { inner = sum (map stmt_nodes x.body); nodes = refl; body = λ there i declared b j top. code_as (omega arith) (omega arith) (enters_paid there i x.body h declared b j top) }) body)
+      all_paid body (along_stmts counted (λ s. Pays) (λ a. ArmPaid) layer
+      (λ x h. record {
+        inner = sum (map stmt_nodes x.body);
+        nodes = refl;
+        body = λ there i declared b j top. code_as (omega arith) (omega arith) (enters_paid there i x.body h declared b j top);
+      }) body)

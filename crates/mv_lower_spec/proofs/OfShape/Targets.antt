@@ -211,7 +211,9 @@ module _ (globals : Globals) (locals : ℕ) (sizes : ℕ → Option ℕ) (void :
       targets_append r (lowered first j).code (repeat (tested ++ stepped) ∷ []) (all_targets first h.0 declared b0.0 u v ls.0 j r k)
       (targets_one r (stm.Loop (tested ++ stepped))
       (targets_append (true ∷ r) tested stepped
-      (test_targets (lower_optional globals.pointers 1 test) (enclosed code ∷ []) (true ∷ r) (omega arith) (optional 1 inside test b1.0 (true ∷ r)) (body_targets body h.1 inside b2.1 u v ls.1 j r k)) (optional 0 inside step b2.0 (true ∷ r))))
+      (test_targets (lower_optional globals.pointers 1 test) (enclosed code ∷ []) (true ∷ r) (omega arith)
+      (optional 1 inside test b1.0 (true ∷ r)) (body_targets body h.1 inside b2.1 u v ls.1 j r k))
+      (optional 0 inside step b2.0 (true ∷ r))))
   layer (stmt.Switch e arms) h declared b u v l j r k =
       let scoped = map (arm_scope globals locals sizes) arms in
       let bs = and_cases (is_within globals locals sizes declared e) (arms_within scoped declared) b in

@@ -64,7 +64,9 @@ module _ (globals : Globals) (locals : ℕ) (sizes : ℕ → Option ℕ) (void :
     pub passes : (r : Around) → r.next ≡ false → live_at u xs r ≡ false
     pub writes : reads_temp u t ≡ true → (r : Around) → live_at u xs r ≡ false
 
-  value : (declared : ℕ → Bool) (e : Expr) → is_within globals locals sizes declared e ≡ true → declared u ≡ false → (lower_expr globals.pointers e locals).top ≤ room → Valued (lower_expr globals.pointers e locals).code (lower_expr globals.pointers e locals).tree
+  value : (declared : ℕ → Bool) (e : Expr) → is_within globals locals sizes declared e ≡ true → declared u ≡ false →
+      (lower_expr globals.pointers e locals).top ≤ room →
+      Valued (lower_expr globals.pointers e locals).code (lower_expr globals.pointers e locals).tree
   value declared e b h top =
       let p = clears.value globals locals sizes room none 0 declared (P declared) (passing.passing_rules (a declared) u h) e b top in
       record { passes = p.made.passes refl; writes = λ v. p.made.writes refl (reads_one u (lower_expr globals.pointers e locals).tree ∙ v) }
@@ -163,8 +165,10 @@ module _ (globals : Globals) (locals : ℕ) (sizes : ℕ → Option ℕ) (void :
           subst (λ c. live_at u c r ≡ false) (sym (append_assoc (lower_expr globals.pointers e locals).code (set u t ∷ more) zeros))
           (then_dead (lower_expr globals.pointers e locals).code (set u t ∷ (more ++ zeros)) t p r (λ h. set_dead t (more ++ zeros) r h))
 
-  clear_dead : (l : ℕ) (values : List Expr) (declared : ℕ → Bool) → nat_lt l locals ≡ true → (itself : Bool) → all_exprs_within globals locals sizes values (cond itself (with_local l declared) declared) ≡ true → declared u ≡ false →
-      (j : Jumps) → values_top locals (map (lower_expr globals.pointers) values) ≤ room → (r : Around) → (with_local l declared u ≡ false → r.next ≡ false) → live_at u (lower_clear locals (sizes l) l itself (map (lower_expr globals.pointers) values) j).code r ≡ false
+  clear_dead : (l : ℕ) (values : List Expr) (declared : ℕ → Bool) → nat_lt l locals ≡ true → (itself : Bool) →
+      all_exprs_within globals locals sizes values (cond itself (with_local l declared) declared) ≡ true → declared u ≡ false → (j : Jumps) →
+      values_top locals (map (lower_expr globals.pointers) values) ≤ room → (r : Around) → (with_local l declared u ≡ false → r.next ≡ false) →
+      live_at u (lower_clear locals (sizes l) l itself (map (lower_expr globals.pointers) values) j).code r ≡ false
   clear_dead l values declared h itself b k j top r n = by (nat_eq u l) refl
     where
       by : (z : Bool) → nat_eq u l ≡ z → live_at u (lower_clear locals (sizes l) l itself (map (lower_expr globals.pointers) values) j).code r ≡ false
@@ -244,8 +248,10 @@ module _ (globals : Globals) (locals : ℕ) (sizes : ℕ → Option ℕ) (void :
         (λ r1 e1 n1. arm_dead i body r1 n1
         (λ r2 e2 n2. h.0 declared bs.0 k (in_arm j) (omega (arith, top)) r2 (shut_as (in_arm j) r r2 (e2 ∙ e1) q) n2))
 
-  switch_dead : (e : Expr) (arms : List Arm) → Each A arms → (declared : ℕ → Bool) → is_within globals locals sizes declared e ≡ true → arms_within (map (arm_scope globals locals sizes) arms) declared ≡ true → declared u ≡ false →
-      (j : Jumps) → (lower_switch locals (lower_expr globals.pointers e) (arms_lowered arms) j).top ≤ room → (r : Around) → IsShut j r → r.next ≡ false → live_at u (lower_switch locals (lower_expr globals.pointers e) (arms_lowered arms) j).code r ≡ false
+  switch_dead : (e : Expr) (arms : List Arm) → Each A arms → (declared : ℕ → Bool) → is_within globals locals sizes declared e ≡ true →
+      arms_within (map (arm_scope globals locals sizes) arms) declared ≡ true → declared u ≡ false → (j : Jumps) →
+      (lower_switch locals (lower_expr globals.pointers e) (arms_lowered arms) j).top ≤ room → (r : Around) → IsShut j r → r.next ≡ false →
+      live_at u (lower_switch locals (lower_expr globals.pointers e) (arms_lowered arms) j).code r ≡ false
   switch_dead e arms h declared be b k j top r q n =
       let t = (lower_expr globals.pointers e locals).tree in
       then_dead (lower_expr globals.pointers e locals).code (set locals t ∷ enclosed whole ∷ []) t (value declared e be k (omega (arith, top))) r
@@ -288,7 +294,8 @@ module _ (globals : Globals) (locals : ℕ) (sizes : ℕ → Option ℕ) (void :
   -- ---- each form
 
   -- where nothing more is declared
-  within_dead : (body : List Stmt) → Each S body → (declared : ℕ → Bool) → all_within (scopes body) declared ≡ true → declared u ≡ false → (j : Jumps) → (lowered body j).top ≤ room → (r : Around) → IsShut j r → r.next ≡ false → live_at u (lowered body j).code r ≡ false
+  within_dead : (body : List Stmt) → Each S body → (declared : ℕ → Bool) → all_within (scopes body) declared ≡ true → declared u ≡ false →
+      (j : Jumps) → (lowered body j).top ≤ room → (r : Around) → IsShut j r → r.next ≡ false → live_at u (lowered body j).code r ≡ false
   within_dead body h declared b k j top r q n = all_dead body h declared b k j top r q (λ e. n)
 
   layer : (x : Stmt-F Stmt Arm) → StmtChildren S A x → Dead (limited.stmt_layer x)
@@ -362,5 +369,6 @@ module _ (globals : Globals) (locals : ℕ) (sizes : ℕ → Option ℕ) (void :
       then_dead (lower_expr globals.pointers e locals).code (return_with t ∷ []) t (value declared e b k top) r
       (λ reads. live_one u (stm.Return t) (plain u (t ∷ []) None (λ r. false)) r (flow_roll u (stm.Return t)) ∙ or_from (any_reads u (t ∷ [])) false (reads_one u t ∙ reads) refl)
 
-  pub body_dead : (body : List Stmt) (declared : ℕ → Bool) → all_within (scopes body) declared ≡ true → declared u ≡ false → (j : Jumps) → (lowered body j).top ≤ room → (r : Around) → IsShut j r → r.next ≡ false → live_at u (lowered body j).code r ≡ false
+  pub body_dead : (body : List Stmt) (declared : ℕ → Bool) → all_within (scopes body) declared ≡ true → declared u ≡ false → (j : Jumps) →
+      (lowered body j).top ≤ room → (r : Around) → IsShut j r → r.next ≡ false → live_at u (lowered body j).code r ≡ false
   body_dead body = within_dead body (along_stmts limited (λ s. Dead) (λ a. ArmDead) layer (λ x h. within_dead x.body h) body)

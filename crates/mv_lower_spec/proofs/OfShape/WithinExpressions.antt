@@ -148,7 +148,13 @@ module _ (p : Program) (own : ℕ) (fn : Function) (globals : Globals) (locals :
   layer : (x : Form-F Form Target Expr) → FormChildren P Q S x → (t : CType) → (let w = judged.form_layer x in Good (HasType p fn t x × FormParts p fn x) (w.1.0.0 t) w.1.0.1 w.1.1.0 w.1.1.1 → w.0 ≡ true)
   layer (form.Number n) h t g = refl
   layer (form.Read x) h t g =
-      let reached = h t (record { typed = (g.typed.0, g.typed.1); named = g.named; declared = one_holds (target_names_declared outer x) g.declared; known = one_holds (target_calls_known p x) g.known; held = holds_right (itself x) (index x) g.held }) in
+      let reached = h t (record {
+        typed = (g.typed.0, g.typed.1);
+        named = g.named;
+        declared = one_holds (target_names_declared outer x) g.declared;
+        known = one_holds (target_calls_known p x) g.known;
+        held = holds_right (itself x) (index x) g.held;
+      }) in
       reached.read (holds_left (itself x) (index x) g.held)
   layer (form.Function f) h t g = refl
   layer (form.Unary op a) h t g = h (record { typed = g.typed.1; named = g.named; declared = one_holds (D a) g.declared; known = one_holds (K a) g.known; held = g.held })
@@ -179,7 +185,13 @@ module _ (p : Program) (own : ℕ) (fn : Function) (globals : Globals) (locals :
       and_from (place x).read ((place x).stored && I a) (reached.read (holds_left (itself x) (index x) ahead))
       (and_from (place x).stored (I a) reached.stored (h.1 (record { typed = g.typed.1.1; named = ns.1; declared = ds.1; known = ks.1; held = holds_right both (R a) g.held })))
   layer (form.After up x) h t g =
-      let reached = h t (record { typed = (g.typed.0.1, g.typed.1); named = g.named; declared = one_holds (target_names_declared outer x) g.declared; known = one_holds (target_calls_known p x) g.known; held = holds_right (itself x) (index x) g.held }) in
+      let reached = h t (record {
+        typed = (g.typed.0.1, g.typed.1);
+        named = g.named;
+        declared = one_holds (target_names_declared outer x) g.declared;
+        known = one_holds (target_calls_known p x) g.known;
+        held = holds_right (itself x) (index x) g.held;
+      }) in
       and_from (place x).read (place x).stored (reached.read (holds_left (itself x) (index x) g.held)) reached.stored
   layer (form.Direct f args) h t g =
       let ns = and_cases _ (all_of (map N args)) g.named in
@@ -234,11 +246,22 @@ module _ (p : Program) (own : ℕ) (fn : Function) (globals : Globals) (locals :
   pub expr_within : (e : Expr) → S e
   expr_within =
       along_exprs judged FormWithin TargetWithin ExprWithin
-      (λ x h t g. layer x h t (record { typed = (subst (HasType p fn t) (out-roll-Form x) g.typed.0, subst (FormParts p fn) (out-roll-Form x) (form_parts p fn (roll-Form x) g.typed.1)); named = g.named; declared = g.declared; known = g.known; held = g.held }))
-      (λ x h t g. target_layer x h t (subst (LvalueHasType p fn t) (out-roll-Target x) g.typed.0) (subst (TargetParts p fn) (out-roll-Target x) (target_parts p fn (roll-Target x) g.typed.1)) g.named g.declared g.known g.held)
+      (λ x h t g. layer x h t (record {
+        typed = (
+          subst (HasType p fn t) (out-roll-Form x) g.typed.0,
+          subst (FormParts p fn) (out-roll-Form x) (form_parts p fn (roll-Form x) g.typed.1),
+        );
+        named = g.named;
+        declared = g.declared;
+        known = g.known;
+        held = g.held;
+      }))
+      (λ x h t g. target_layer x h t (subst (LvalueHasType p fn t) (out-roll-Target x) g.typed.0)
+      (subst (TargetParts p fn) (out-roll-Target x) (target_parts p fn (roll-Target x) g.typed.1)) g.named g.declared g.known g.held)
       (λ x h g. h x.ctype (record {
         typed = (
-          subst (λ (z : Expr-F Form Target Expr). HasType p fn z.ctype (out-Form z.what)) (out-roll-Expr x) (expr_node p fn (roll-Expr x) g.typed),
+          subst (λ (z : Expr-F Form Target Expr). HasType p fn z.ctype (out-Form z.what)) (out-roll-Expr x)
+              (expr_node p fn (roll-Expr x) g.typed),
           subst (λ (z : Expr-F Form Target Expr). TypedForm p fn z.what) (out-roll-Expr x) (expr_form p fn (roll-Expr x) g.typed),
         );
         named = g.named;

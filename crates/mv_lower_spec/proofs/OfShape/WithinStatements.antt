@@ -68,7 +68,8 @@ module _ (p : Program) (own : ℕ) (fn : Function) (globals : Globals) (locals :
 
   -- values, whose free names are declared further in too
   module _ (free outer inner : Scope) (narrow : (l : ℕ) → free l ≡ true → outer l ≡ true → inner l ≡ true) where
-    values : (t : Expr → Type 0) → ((e : Expr) → t e → IsTypedExpr p fn e) → (es : List Expr) → All t es → all_of (map (is_well_named p own locals sizes free) es) ≡ true → all_of (map (names_declared outer) es) ≡ true → all_of (map K es) ≡ true →
+    values : (t : Expr → Type 0) → ((e : Expr) → t e → IsTypedExpr p fn e) → (es : List Expr) → All t es →
+        all_of (map (is_well_named p own locals sizes free) es) ≡ true → all_of (map (names_declared outer) es) ≡ true → all_of (map K es) ≡ true →
         Holds (reads_of_all es) → all_exprs_within globals locals sizes es inner ≡ true
     values t typed [] ts n d k r = refl
     values t typed (e ∷ es) ts n d k r =
@@ -218,8 +219,9 @@ module _ (p : Program) (own : ℕ) (fn : Function) (globals : Globals) (locals :
       let typed : (e : Expr) → IsTypedAt p fn g.typed.0.0 e → IsTypedExpr p fn e = λ e t. t.0 in
       and_from (nat_lt l locals) (all_exprs_within globals locals sizes values_of (cond names_itself (with_local l scope) scope)) f0.0 (by names_itself f2.1 known held typed f2.0)
     where
-      by : (z : Bool) → (z || all_of (map (is_well_named p own locals sizes (but_for l)) values_of)) ≡ true → all_of (map K values_of) ≡ true → Holds (reads_of_all values_of) → ((e : Expr) → IsTypedAt p fn g.typed.0.0 e → IsTypedExpr p fn e) →
-          all_of (map N values_of) ≡ true → all_exprs_within globals locals sizes values_of (cond z (with_local l scope) scope) ≡ true
+      by : (z : Bool) → (z || all_of (map (is_well_named p own locals sizes (but_for l)) values_of)) ≡ true → all_of (map K values_of) ≡ true →
+          Holds (reads_of_all values_of) → ((e : Expr) → IsTypedAt p fn g.typed.0.0 e → IsTypedExpr p fn e) → all_of (map N values_of) ≡ true →
+          all_exprs_within globals locals sizes values_of (cond z (with_local l scope) scope) ≡ true
       by true e known held typed named = values (λ k. true) (with_local l scope) (with_local l scope) (λ k f o. o) (IsTypedAt p fn g.typed.0.0) typed values_of g.typed.0.2 named g.declared known held
       by false e known held typed named = values (but_for l) (with_local l scope) scope (narrowed l scope) (IsTypedAt p fn g.typed.0.0) typed values_of g.typed.0.2 e g.declared known held
   layer (stmt.Express e) h scope g = expr scope e g.typed.0 g.named g.declared (first_known e true g.known).0 (first_held e (λ r a. false) g.held)

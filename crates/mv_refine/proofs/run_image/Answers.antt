@@ -2,7 +2,7 @@ use Rattle.std.proofs.Common.{refl, sym, subst}
 use Rattle.std.specs.Prelude.{All, IsTrue}
 use Rattle.std.proofs.lemmas.Result.{err_from_is_err_and}
 use Rattle.mv_image.specs.Spelling.{Fields}
-use Rattle.mv_machine.specs.Actions.{fits}
+use Rattle.mv_machine.specs.Actions.{fits_rows}
 use Rattle.mv_probe.proofs.Logs.{told_nothing}
 use Rattle.mv_refine.proofs.Ran.{made, image_of, unless_fresh}
 use Rattle.mv_refine.proofs.run_image.Goals as goal
@@ -10,7 +10,7 @@ use Rattle.mv_refine.proofs.run_image.Goals as goal
 pub run-report-requires-clause-fit : goal.run-report-requires-clause-fit
 run-report-requires-clause-fit g c =
     let image = c.args.image.now in
-    subst (λ (i : Fields). All (λ action. IsTrue (fits i.switches action)) c.args.actions.now)
+    subst (λ (i : Fields). All (λ action. IsTrue (fits_rows i.switches action)) c.args.actions.now)
     (sym (image_of c.in_ok-machine.machine image c.in_ok-machine.ensures)) c.requires.fit
 
 pub returns-in_err-machine-clause-runs : goal.returns-in_err-machine-clause-runs

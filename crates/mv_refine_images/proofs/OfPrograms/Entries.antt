@@ -136,7 +136,9 @@ module _ {M : Type 0} (access : Access M) (y : Layout) (machine : Machine M) (wo
             let some = room_for_saved (shape_of true s.body) in
             firsts access y host.laid machine (has_bindings w.bindings) (part (y.entry f) (y.entry f + 4) (words_alone (words w.bindings)))
             (host.runs_under w.bindings (y.entry f) (y.entry f + 4) narrow.nothing (nothing_open closed (y.entry f) (y.entry f + 4))) budget far (bytes_of (shape_of true s.body)) (y.entry f)
-            (word_in (words_alone (words w.bindings)) (y.entry f) (y.entry f + 4) (y.entry f) (omega arith) (omega arith) (s.entry_free w.bindings free)) s.here w i (omega (arith, some)) (omega (arith, enters.room, small)) ((told w.bindings w.bindings).1 refl) stands
+            (word_in (words_alone (words w.bindings)) (y.entry f) (y.entry f + 4) (y.entry f) (omega arith) (omega arith)
+            (s.entry_free w.bindings free)) s.here w i (omega (arith, some)) (omega (arith, enters.room, small))
+            ((told w.bindings w.bindings).1 refl) stands
 
         kept : (contents : Contents) × Answers access y machine budget far 44 (length (over s.shorts)) (y.entry f) back depth frames args (body_from setting frame contents s.body args (over s.shorts)) i
         kept =
@@ -178,6 +180,8 @@ module _ {M : Type 0} (access : Access M) (y : Layout) (machine : Machine M) (wo
           let j =
           jumps access y host.laid machine (has_bindings w.bindings) (part (y.entry f) (y.entry f + 4) (words_alone (words w.bindings)))
           (host.runs_under w.bindings (y.entry f) (y.entry f + 4) narrow.nothing (nothing_open closed (y.entry f) (y.entry f + 4))) budget far v.address (y.entry f)
-          (word_in (words_alone (words w.bindings)) (y.entry f) (y.entry f + 4) (y.entry f) (omega arith) (omega arith) (s.entry_bound w.bindings vs combination bound)) s.here v.placed.1.here depth frames args w i ((told w.bindings w.bindings).1 refl) stands enters in
+          (word_in (words_alone (words w.bindings)) (y.entry f) (y.entry f + 4) (y.entry f) (omega arith) (omega arith)
+          (s.entry_bound w.bindings vs combination bound)) s.here v.placed.1.here depth frames args w i
+          ((told w.bindings w.bindings).1 refl) stands enters in
           j.follows spare (length levels) back (Source w).end
           (variant_answers keep frames_bound back (i + 1) target (subst (λ (r : List ℕ). reg r link_register ≡ back) (sym j.registers) ra) spare w bound j.stands j.enters (omega (arith, paid)) (omega (arith, asked)))

@@ -22,7 +22,7 @@ use Rattle.mv_source_forms.specs.Names.{words_of_global}
 use Rattle.mv_source_forms.specs.WellFormed.{IsWellFormed}
 use Rattle.mv_lower_spec.specs.Functions.{lower_function}
 use Rattle.mv_lower_spec.specs.Statements.{levels}
-use Rattle.mv_lower_spec.specs.Programs.Laws.{HasGlobals, callee_frame}
+use Rattle.mv_lower_spec.specs.Programs.Laws.{callee_frame}
 use Rattle.mv_lower_spec.specs.Calls.SourceCalls.{source_call, Promises}
 use Rattle.mv_lower_spec.specs.Calls.Laws.{AreAsSource, BodiesAreRight}
 use Rattle.mv_select_code.specs.Control.Runs.{Machine}

@@ -1,5 +1,5 @@
 -- The tables of the image that is linked of a program have what its orders and polls ask for.
-use Rattle.std.proofs.Common.{◌≡◌, ℕ, suc, ◌+◌, ◌*◌, ◌<◌, ◌≤◌, Bool, true, false, ◌&&◌, ◌||◌, cond, nat_lt, if◌then◌else◌, List, [], ◌∷◌, ◌++◌, Option, Some, None, option_map, is_some, length, map, take, replicate, slice_get, All, refl, sym, ap, ap₂, ◌∙◌, subst, arith}
+use Rattle.std.proofs.Common.{◌≡◌, ℕ, ◌+◌, ◌*◌, ◌<◌, ◌≤◌, Bool, true, false, ◌&&◌, ◌||◌, cond, nat_lt, if◌then◌else◌, List, [], ◌++◌, Option, Some, None, option_map, is_some, length, map, take, replicate, slice_get, All, refl, sym, ap, ap₂, ◌∙◌, subst, arith}
 use Rattle.std.specs.Prelude.{sum}
 use Rattle.std.specs.List.{range_with_len}
 use Rattle.std.proofs.lemmas.Bool.{lt-ltb}
@@ -40,11 +40,12 @@ use Rattle.mv_isa.specs.Code.{address, text_start}
 use Rattle.mv_linker.specs.declared.parts.Parts.{Parts}
 use Rattle.mv_linker.specs.Linked.{linked_lines}
 use Rattle.mv_linker.specs.Outcome.{IsLinked}
-use Rattle.mv_linker.specs.Tables.{data_start, switch_row, function_row, pointer_row, pointer_addresses, point_count, slot_count, target_rows, FitsPartSwitch}
+use Rattle.mv_linker.specs.Tables.{data_start, switch_row, function_row, pointer_row, pointer_addresses, point_count, slot_count, FitsPartSwitch}
 use Rattle.mv_linker.specs.Tables as linker
 use Rattle.mv_linker.proofs.LinkedText.{linked_text}
 use Rattle.mv_linker.proofs.Sited.{point_length, site_length, slots_of_codes}
 use Rattle.mv_link_data.specs.FirstData.{global_sizes}
+use Rattle.mv_link_text.proofs.Whole.{target_entries}
 use Rattle.mv_variants.specs.declared.variant.Variant.{Variant}
 use Rattle.mv_variants.specs.Domains.{integer_kind, kind_or_int}
 use Rattle.mv_parts.specs.Laws.{PartsAreCounted}
@@ -96,16 +97,6 @@ unfolding is_known_order
 same_orders p image functions addressed code index is =
     let same = ap₂ (is_counted code index) functions addressed in
     or_else (nat_lt code 2) (is_counted code index (length image.functions) (length image.switches + length image.pointers)) (ap (cond (nat_lt code 2) true) same ∙ is)
-
--- ---- targets
-
--- the entries of targets are the addresses of the functions with their numbers
-target_entries : (entry : ℕ → ℕ) (number : ℕ) (names : List (List ℕ)) →
-    map (λ (target : TargetRow). target.entry) (target_rows entry number names) ≡ map entry (range_with_len number (length names))
-target_entries entry number [] = refl
-target_entries entry number (name ∷ rest) =
-    let next : suc number ≡ number + 1 = omega arith in
-    ap (λ more. entry number ∷ more) (target_entries entry (suc number) rest ∙ ap (λ n. map entry (range_with_len n (length rest))) next)
 
 -- ---- values of switches
 
@@ -174,7 +165,7 @@ module _ (leads : RowsLeadToVariants) (counted : PartsAreCounted) (p : Program) 
       let is = one_of_all (λ w. is_value_of h.global.ctype w ≡ true) x.values h.values 0 one.0 one.1 in
       subst (λ (o : Option Global). is_value (kind_number (kind_or_int o)) v ≡ is_global_value o v) (sym h.there) (of_integer h.global.ctype one.0 v is)
 
-  same_actions : (action : Action) → machine.fits image.switches action ≡ source.fits p action
+  same_actions : (action : Action) → machine.fits_rows image.switches action ≡ source.fits p action
   same_actions Skip = refl
   same_actions (Flip s v) =
       let row = ap (λ (all : List SwitchRow). slice_get all s) rows ∙ slice_get-map switch_row (part_switches p) s ∙ ap (option_map switch_row) (slice_get-map (part_switch p) p.switches s) in
@@ -233,7 +224,7 @@ module _ (leads : RowsLeadToVariants) (counted : PartsAreCounted) (p : Program) 
     targets = targets;
   }
 
-  few_places : patchable image ≤ counts.patchable p
+  few_places : patchable image ≤ counts.patchable_places p
   unfolding patchable
   few_places =
       let functions : length image.functions ≡ length parts.attributed =

@@ -28,7 +28,8 @@ use Rattle.mv_refine_images.specs.Programs.Hosts.{IsLoaded, IsOpenlyLoaded}
 -- it does in the source.
 abbrev pub FunctionsKeepConvention : Type 0 → Type 0
 FunctionsKeepConvention M =
-    (access : Access M) (y : Layout) (machine : Machine M) (words : List Binding → ℕ → Option ℕ) (closed : (pc address : ℕ) → Bool) (budget far : ℕ) (p : Program) (numbers : List ℕ) → IsLoaded access y machine words closed budget far p numbers →
+    (access : Access M) (y : Layout) (machine : Machine M) (words : List Binding → ℕ → Option ℕ) (closed : (pc address : ℕ) → Bool) (budget far : ℕ)
+    (p : Program) (numbers : List ℕ) → IsLoaded access y machine words closed budget far p numbers →
     (bound : ℕ) → Conventions access y machine budget far (setting_of numbers p) (source_levels p numbers bound)
 
 -- the first world of a program in a hart, as code sees it
@@ -48,7 +49,8 @@ MainDoes access y machine budget far p numbers hart input actions back i bound =
 -- And its main function does so, begun in the first world, at every bound.
 abbrev pub MainFollows : Type 0 → Type 0
 MainFollows M =
-    (access : Access M) (y : Layout) (machine : Machine M) (words : List Binding → ℕ → Option ℕ) (closed : (pc address : ℕ) → Bool) (budget far : ℕ) (p : Program) (numbers : List ℕ) → IsLoaded access y machine words closed budget far p numbers →
+    (access : Access M) (y : Layout) (machine : Machine M) (words : List Binding → ℕ → Option ℕ) (closed : (pc address : ℕ) → Bool) (budget far : ℕ)
+    (p : Program) (numbers : List ℕ) → IsLoaded access y machine words closed budget far p numbers →
     IsNumbering p numbers → (hart : ℕ) (input : List ℕ) (actions : List Act) → All (λ a. IsTrue (act_fits p hart a)) actions →
     (back i : ℕ) → IsTarget back → reg (machine.run i).regs ra ≡ back → Begins access y machine i →
     Stands access y machine budget far (y.entry p.main) (first_seen p numbers hart input actions) i → (bound : ℕ) → MainDoes access y machine budget far p numbers hart input actions back i bound

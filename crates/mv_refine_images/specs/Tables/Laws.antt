@@ -57,9 +57,9 @@ VariantsHaveRows =
 -- each hart the program and the machine start with the same bindings.
 pub record HaveTables (p : Program) (numbers : List ℕ) (image : Fields) : Type 0 where
   pub tabled : (y : Layout) → ((x : ℕ) → y.place x ≡ data_start + 4 * sum (take x (global_sizes p))) → ((x : ℕ) → y.size x ≡ global_words p x) → IsTabled p numbers y image
-  pub places : patchable image ≤ counts.patchable p
+  pub places : patchable image ≤ counts.patchable_places p
   pub orders : (code index : ℕ) → known_is_there p (Plan code index) ≡ true → is_known_order image code index ≡ true
-  pub fits : (action : Action) → machine.fits image.switches action ≡ source.fits p action
+  pub fits : (action : Action) → machine.fits_rows image.switches action ≡ source.fits p action
   pub bindings : (numbers : List ℕ) (hart : ℕ) (bytes : List ℕ) (acts : List Act) → (first_world_under p numbers hart bytes acts).bindings ≡ first_bindings image
 
 -- So those of the image of a program, whose functions have the addresses of their entries as numbers.

@@ -12,7 +12,7 @@ use Rattle.mv_machine.specs.Runs.{plan_area, stored_word, stored_words, spelled_
 use Rattle.mv_refine_machine.specs.Commits.Watched.{plan_words}
 use Rattle.mv_refine_machine.proofs.Memory.{whole_word}
 use Rattle.mv_refine_machine.proofs.OfStores.Stored.{same_plan}
-use Rattle.mv_num.proofs.Lists.{get_set_same, get_set_other}
+use Rattle.mv_num.proofs.Lists.{get_set_same, get_set_other, there_at}
 
 plan_region : (a : ℕ) → 0x0040_0000 ≤ a → a < 0x0048_0000 → region_of a ≡ region_of 0x0040_0000
 unfolding region_of
@@ -54,11 +54,6 @@ unfolding present
 plan_present h k w lt there =
     ap₂ (λ r j. slice_get (words_of h r) j) (plan_region (at k) (omega arith) (omega (arith, lt))) (index_is k)
     ∙ ap (λ xs. slice_get xs k) (plan_words_of h) ∙ there
-
-there_at : (xs : List ℕ) (n : ℕ) → n < length xs → (x : ℕ) × (slice_get xs n ≡ Some x)
-there_at [] n lt = absurd (omega (arith, lt))
-there_at (x ∷ xs) zero lt = (x, refl)
-there_at (x ∷ xs) (suc n) lt = there_at xs n (omega (arith, lt))
 
 -- ---- one store
 

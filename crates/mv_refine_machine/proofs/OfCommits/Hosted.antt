@@ -1,6 +1,7 @@
 -- The machine begins in calm, and its memory has words.
 use Rattle.std.proofs.Common.{◌≡◌, ℕ, false, eqb, List, [], length, option_map, Option, Some, None, refl, sym, ap, ◌∙◌, subst}
 use Rattle.mv_fetch.specs.Held.{fence, first as first_memory}
+use Rattle.mv_fetch.proofs.Histories.{length_zeros}
 use Rattle.mv_rv32.specs.Stepping as memory
 use Rattle.mv_image.specs.Spelling.{Fields}
 use Rattle.mv_image.specs.Patched.{text_of}
@@ -20,7 +21,6 @@ use Rattle.mv_refine_machine.specs.Laws.{IsFirst}
 use Rattle.mv_refine_machine.specs.MachineRuns as runs
 use Rattle.mv_refine_machine.specs.MachineRuns.{rest_of}
 use Rattle.mv_refine_machine.proofs.Whole as whole
-use Rattle.mv_refine_machine.proofs.Starts.{zeros_count}
 use Rattle.mv_refine_machine.specs.Stores.Between.{IsWhole}
 use Rattle.mv_refine_machine.specs.Commits.Watch.{texts_of}
 use Rattle.mv_refine_machine.specs.Commits.Watched.{Watched, access, watched, put_room, plan_words}
@@ -34,7 +34,7 @@ use Rattle.mv_refine_machine.proofs.OfCommits.Tabled.{room_stored}
 
 plan_there : (image : Fields) (input : List (Option ℕ)) (polls : PollActs) → length (first image input polls).room.held.plan ≡ plan_words
 unfolding first first_memory
-plan_there image input polls = zeros_count 131072
+plan_there image input polls = length_zeros 131072
 
 reserved : (image : Fields) (input : List (Option ℕ)) (polls : PollActs) → (first image input polls).room.reserve ≡ patchable image
 unfolding first

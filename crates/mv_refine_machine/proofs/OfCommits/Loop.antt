@@ -143,12 +143,15 @@ module _ (between : TextIsBetween) (tested : BetweenIsTested) (differ : PairsAre
       let p1 : reg r0 5 + 4 ≡ 0x0040_0000 + 8 * length done + 4 = omega (arith, h.pointer) in
       let c2 : In (b + 4 * 5) done (pair ∷ left) r1 (i + 1 + 1) =
       sets 4 7 pair.address (Lw 7 5 (pos 4)) done (pair ∷ left) r0 (i + 1) (omega arith) refl (inr (inr (inl refl))) fits.address
-      (lw_goes access (room done) r0 (b + 4 * 4) (small 4 (omega arith)) 7 5 4 (0x0040_0000 + 8 * length done + 4) pair.address p1 (omega (arith, few)) (address_loads done left pair q)) (load_open 4 7 5 4 r0 (omega arith) (omega (arith, p1)) (omega (arith, p1, few))) refl (λ s u. (refl, refl)) c1 in
+      (lw_goes access (room done) r0 (b + 4 * 4) (small 4 (omega arith)) 7 5 4 (0x0040_0000 + 8 * length done + 4) pair.address p1
+      (omega (arith, few)) (address_loads done left pair q)) (load_open 4 7 5 4 r0 (omega arith) (omega (arith, p1)) (omega (arith, p1, few))) refl
+      (λ s u. (refl, refl)) c1 in
       let n1 = c2.registers.count in
       let p2 : reg r1 5 + 8 ≡ 0x0040_0000 + 8 * length done + 8 = omega (arith, h.pointer, put_other r0 7 5 pair.address (omega arith) (λ e. omega (arith, e))) in
       let c3 : In (b + 4 * 6) done (pair ∷ left) r2 (i + 1 + 1 + 1) =
       sets 5 28 pair.word (Lw 28 5 (pos 8)) done (pair ∷ left) r1 (i + 1 + 1) (omega arith) refl (inr (inr (inr refl))) fits.word
-      (lw_goes access (room done) r1 (b + 4 * 5) (small 5 (omega arith)) 28 5 8 (0x0040_0000 + 8 * length done + 8) pair.word p2 (omega (arith, few)) (word_loads done left pair q)) (load_open 5 28 5 8 r1 (omega arith) (omega (arith, p2)) (omega (arith, p2, few))) refl (λ s u. (refl, refl)) c2 in
+      (lw_goes access (room done) r1 (b + 4 * 5) (small 5 (omega arith)) 28 5 8 (0x0040_0000 + 8 * length done + 8) pair.word p2 (omega (arith, few))
+      (word_loads done left pair q)) (load_open 5 28 5 8 r1 (omega arith) (omega (arith, p2)) (omega (arith, p2, few))) refl (λ s u. (refl, refl)) c2 in
       let n2 = c3.registers.count in
       let to : reg r2 7 ≡ pair.address = put_other r1 28 7 pair.word (omega arith) (λ e. omega (arith, e)) ∙ put_same r0 7 pair.address (omega arith) (omega (arith, many)) in
       let what : reg r2 28 ≡ pair.word = put_same r1 28 pair.word (omega arith) (omega (arith, n1)) in
@@ -158,7 +161,8 @@ module _ (between : TextIsBetween) (tested : BetweenIsTested) (differ : PairsAre
       let q' : (done ++ pair ∷ []) ++ left ≡ coming = append_assoc done (pair ∷ []) left ∙ q in
       let c4 : In (b + 4 * 7) (done ++ pair ∷ []) left r2 (i + 1 + 1 + 1 + 1) =
       line 6 7 (b + 4 * 6 + 4) (Sw 7 28 (pos 0)) done (pair ∷ left) (done ++ pair ∷ []) left r2 r2 (i + 1 + 1 + 1) refl (omega arith)
-      (sw_goes access (room done) r2 (b + 4 * 6) (small 6 (omega arith)) 7 28 pair.address pair.word (room (done ++ pair ∷ [])) to what fits.address (facts.next pair left refl ∙ ap (λ ps. Some (stored_all begun ps)) (append_assoc before done (pair ∷ [])))) refl
+      (sw_goes access (room done) r2 (b + 4 * 6) (small 6 (omega arith)) 7 28 pair.address pair.word (room (done ++ pair ∷ [])) to what fits.address
+      (facts.next pair left refl ∙ ap (λ ps. Some (stored_all begun ps)) (append_assoc before done (pair ∷ [])))) refl
       (ap (λ z. not (into_text (Some (add (reg r2 7) (word_of (pos 0)))) && z)) spare ∙ not_and_false (into_text (Some (add (reg r2 7) (word_of (pos 0)))))) (λ s u. (refl, refl)) q' c3.registers (λ n o. refl) c3 in
       let p5 : reg r2 5 ≡ 0x0040_0000 + 8 * length done = put_other r1 28 5 pair.word (omega arith) (λ e. omega (arith, e)) ∙ put_other r0 7 5 pair.address (omega arith) (λ e. omega (arith, e)) ∙ h.pointer in
       let c5 : In (b + 4 * 8) (done ++ pair ∷ []) left r3 (i + 1 + 1 + 1 + 1 + 1) =
@@ -243,7 +247,8 @@ module _ (between : TextIsBetween) (tested : BetweenIsTested) (differ : PairsAre
       plan_is [] coming refl 0 (length coming) refl in
       let c2 : In (b + 4 * 3) [] coming r2 (start + 1 + 1) =
       sets 2 6 (length coming) (Lw 6 5 (pos 0)) [] coming r1 (start + 1) (omega arith) refl (inr (inl refl)) (omega (arith, few))
-      (lw_goes access (room []) r1 (b + 4 * 2) (small 2 (omega arith)) 6 5 0 (0x0040_0000 + 4 * 0) (length coming) (omega (arith, p1)) (omega arith) counted) (load_open 2 6 5 0 r1 (omega arith) (omega (arith, p1)) (omega (arith, p1))) refl (λ s u. (refl, refl)) c1 in
+      (lw_goes access (room []) r1 (b + 4 * 2) (small 2 (omega arith)) 6 5 0 (0x0040_0000 + 4 * 0) (length coming) (omega (arith, p1))
+      (omega arith) counted) (load_open 2 6 5 0 r1 (omega arith) (omega (arith, p1)) (omega (arith, p1))) refl (λ s u. (refl, refl)) c1 in
       let two : start + 1 + 1 ≡ start + 2 = omega arith in
       record {
         regs = r2;
@@ -263,7 +268,8 @@ module _ (between : TextIsBetween) (tested : BetweenIsTested) (differ : PairsAre
       let on : b + 4 * 10 + 4 ≡ b + 4 * 11 = omega arith in
       let goes : execute access FenceI regs (b + 4 * 10) (room coming) ≡ Goes regs (b + 4 * 11) (access.fence (room coming)) =
       fence_goes access (room coming) regs (b + 4 * 10) (small 10 (omega arith)) ∙ ap (λ a. Goes regs a (access.fence (room coming))) on in
-      let is = mid_goes between tested differ closed texts first picks word old new start begun before coming are planned plain apart (b + 4 * 10) (b + 4 * 11) FenceI coming [] regs regs (access.fence (room coming)) i at h.joined goes h.is in
+      let is = mid_goes between tested differ closed texts first picks word old new start begun before coming are planned plain apart (b + 4 * 10)
+      (b + 4 * 11) FenceI coming [] regs regs (access.fence (room coming)) i at h.joined goes h.is in
       record {
         regs = regs;
         is = is ∙ ap (λ r. record (run closed texts first picks start) { regs = regs; pc = b + 4 * 11; room = access.fence r }) all_stored;
@@ -272,7 +278,9 @@ module _ (between : TextIsBetween) (tested : BetweenIsTested) (differ : PairsAre
         registers = h.registers;
         others = h.others;
         sound = before_next (Sound closed texts first picks) i h.sound
-            (ap₂ (λ u s. is_sound closed texts u (spot_of s)) h.under h.is ∙ mid_sound between tested differ closed texts first picks word old new start begun before coming are planned plain apart (b + 4 * 10) FenceI coming [] regs at h.joined refl refl refl);
+            (ap₂ (λ u s. is_sound closed texts u (spot_of s)) h.under h.is
+            ∙ mid_sound between tested differ closed texts first picks word old new start begun before coming are planned plain apart
+            (b + 4 * 10) FenceI coming [] regs at h.joined refl refl refl);
       }
 
   -- from behind the call to behind FENCE.I

@@ -108,7 +108,7 @@ there p switch value h = by_row (slice_get p.switches switch) refl h
 
 module _ (known : Laws) (attributed : List ℕ) (closed : (pc address : ℕ) → Bool) (image : Fields) (rules : Rules image) (input : List (Option ℕ)) (polls : PollActs) (words : All IsActOfWord polls.acts) (picks : List ℕ)
     (y : Layout) (laid : IsSetOut y) (place entry : ℕ → ℕ) (end : ℕ) (placed : Placed (machine_text attributed image) place entry commit_lines y.commit end) (free : IsPlanOpen closed y.commit)
-    (budget far : ℕ) (numbers : List ℕ) (p : Program) (numbered : length numbers ≡ length p.functions) (few : patchable image ≤ counts.patchable p) (tabled : IsTabled p numbers y image)
+    (budget far : ℕ) (numbers : List ℕ) (p : Program) (numbered : length numbers ≡ length p.functions) (few : patchable image ≤ counts.patchable_places p) (tabled : IsTabled p numbers y image)
     (knows : (code index : ℕ) → y.may_ask (Plan code index) ≡ true → is_known_order image code index ≡ true) where
   abbrev machine : Machine Watched
   machine = narrowed (watched_machine attributed closed image input polls picks) (is_fit p) (machine_text attributed image)

@@ -17,7 +17,7 @@ use Rattle.mv_fetch.specs.Held.{Held, Room}
 use Rattle.mv_image.specs.Spelling.{Fields}
 use Rattle.mv_image.specs.Faults.{Rules}
 use Rattle.mv_patch.specs.declared.prepared.Pair.{Pair}
-use Rattle.mv_patch.specs.Orders.{values_of, bindings_after, answer_after, is_known_order}
+use Rattle.mv_patch.specs.Orders.{values_of, bindings_ordered, answer_after, is_known_order}
 use Rattle.mv_patch.specs.Plans.{plan_between, plan_of}
 use Rattle.mv_patch.specs.Tables.{patchable}
 use Rattle.mv_ir.specs.World.{World}
@@ -39,9 +39,9 @@ use Rattle.mv_refine_machine.proofs.OfCommits.Served.{loads_outside}
 -- An order does by the tables, of a world that stands in memory, what it does in the source.
 pub record OrderAgrees (p : Program) (numbers : List ℕ) (image : Fields) (w : World) (held : Held) (code index : ℕ) : Type 0 where
   pub known : is_known_order image code index ≡ true
-  pub bindings : bindings_after image held code index w.bindings ≡ source_orders.bindings_after p numbers code index w.globals w.bindings
-  pub answers : answer_after image code index (bindings_after image held code index w.bindings) ≡ cond (is_commit code) (bound_after p code index (bindings_after image held code index w.bindings)) 0
-  pub small : answer_after image code index (bindings_after image held code index w.bindings) < 2 ^ 32
+  pub bindings : bindings_ordered image held code index w.bindings ≡ source_orders.bindings_after p numbers code index w.globals w.bindings
+  pub answers : answer_after image code index (bindings_ordered image held code index w.bindings) ≡ cond (is_commit code) (bound_after p code index (bindings_ordered image held code index w.bindings)) 0
+  pub small : answer_after image code index (bindings_ordered image held code index w.bindings) < 2 ^ 32
 
 -- A flip's value in the word of its switch changes data alone; memory then holds the world with it, of which a commit of all does by the tables what it does
 -- in the source.
@@ -73,7 +73,7 @@ globals_as y m host budget far w w' e h = record {
 }
 
 module _ (known : Known) (y : Layout) (laid : IsSetOut y) (machine : Machine Watched) (budget far : ℕ) (numbers : List ℕ) (p : Program) (image : Fields) (rules : Rules image)
-    (few : patchable image ≤ counts.patchable p) (s : State) (of : s.image ≡ image) (under : Option (List Binding)) (w : World) (quiet : IsQuiet image w (watched s under)) where
+    (few : patchable image ≤ counts.patchable_places p) (s : State) (of : s.image ≡ image) (under : Option (List Binding)) (w : World) (quiet : IsQuiet image w (watched s under)) where
   abbrev m : Watched
   m = watched s under
 
@@ -94,7 +94,7 @@ module _ (known : Known) (y : Layout) (laid : IsSetOut y) (machine : Machine Wat
   same_bindings : s.bindings ≡ w.bindings
   same_bindings = quiet.calm.bindings
 
-  few_pairs : (old new : List Binding) → length (plan_between image old new) ≤ counts.patchable p
+  few_pairs : (old new : List Binding) → length (plan_between image old new) ≤ counts.patchable_places p
   few_pairs old new = let n = (known.tells image rules (values_of old) (values_of new)).few in omega (arith, n, few)
 
   -- From a room with the globals of a world a call goes on to another world with these, and splits the pairs.
@@ -168,8 +168,8 @@ module _ (known : Known) (y : Layout) (laid : IsSetOut y) (machine : Machine Wat
     abbrev next : State
     next = carried_out (record s { room = room; actions = left }) (plan_of s.image room.held s.bindings code index) answer
 
-    pub bound_is : bindings_after s.image room.held code index s.bindings ≡ bound
-    bound_is = ap₂ (λ f bs. bindings_after f room.held code index bs) of same_bindings ∙ agrees.bindings
+    pub bound_is : bindings_ordered s.image room.held code index s.bindings ≡ bound
+    bound_is = ap₂ (λ f bs. bindings_ordered f room.held code index bs) of same_bindings ∙ agrees.bindings
 
     leaves : Leaves s next answer
     unfolding answered
@@ -186,17 +186,17 @@ module _ (known : Known) (y : Layout) (laid : IsSetOut y) (machine : Machine Wat
       output = refl;
     }
 
-    room_is : next.room ≡ with_plan room (plan_between s.image s.bindings (bindings_after s.image room.held code index s.bindings))
+    room_is : next.room ≡ with_plan room (plan_between s.image s.bindings (bindings_ordered s.image room.held code index s.bindings))
     unfolding plan_of
     room_is = refl
 
-    same : plan_between s.image s.bindings (bindings_after s.image room.held code index s.bindings) ≡ plan_between image s.bindings bound
+    same : plan_between s.image s.bindings (bindings_ordered s.image room.held code index s.bindings) ≡ plan_between image s.bindings bound
     same = ap₂ (λ f bs. plan_between f s.bindings bs) of bound_is
 
     pub carries : HoldsGlobals access y machine budget far (record w { globals = globals }) (put_room m room) → answer < 2 ^ 32
         → Gives (record { answer = answer; world = rebound before bound }) (patch_cost p) next
     carries holds word =
-        let pairs = plan_between s.image s.bindings (bindings_after s.image room.held code index s.bindings) in
+        let pairs = plan_between s.image s.bindings (bindings_ordered s.image room.held code index s.bindings) in
         let paid : 6 + 7 * length (plan_between image s.bindings bound) ≤ stub_cost + patch_cost p = (let n = few_pairs s.bindings bound in omega (arith, n)) in
         gives (record w { globals = globals }) (record { answer = answer; world = rebound before bound }) room [] (plan_between image s.bindings bound) (patch_cost p) next refl keeps holds leaves world
         (all_coming known image rules s.bindings bound room next.room pairs (ap (λ (xs : List ℕ). length xs) keeps.plan ∙ quiet.plan) room_is same) word paid
@@ -212,9 +212,9 @@ module _ (known : Known) (y : Layout) (laid : IsSetOut y) (machine : Machine Wat
     abbrev counted : ℕ
     counted = (plan_of s.image s.room.held s.bindings code index).answer
 
-    counted_is : counted ≡ answer_after image code index (bindings_after image s.room.held code index w.bindings)
+    counted_is : counted ≡ answer_after image code index (bindings_ordered image s.room.held code index w.bindings)
     unfolding plan_of
-    counted_is = ap₂ (λ f bs. answer_after f code index (bindings_after f s.room.held code index bs)) of same_bindings
+    counted_is = ap₂ (λ f bs. answer_after f code index (bindings_ordered f s.room.held code index bs)) of same_bindings
 
     answer_is : counted ≡ cond (is_commit code) (bound_after p code index (source_orders.bindings_after p numbers code index w.globals w.bindings)) 0
     answer_is = counted_is ∙ agrees.answers ∙ ap (λ bs. cond (is_commit code) (bound_after p code index bs) 0) agrees.bindings
@@ -222,7 +222,11 @@ module _ (known : Known) (y : Layout) (laid : IsSetOut y) (machine : Machine Wat
     by_test : (b : Bool) → Gives (order_gives code index b) (patch_cost p) (cond b (ordered s code index) (refused s (2 ^ 32 - 1)))
     by_test true =
         subst (λ n. Gives (record { answer = n; world = rebound (seen_from 0 live w) (source_orders.bindings_after p numbers code index w.globals w.bindings) }) (patch_cost p) (ordered s code index)) answer_is
-        (subst (λ (left : List Act). Gives (record { answer = counted; world = record (rebound (seen_from 0 live w) (source_orders.bindings_after p numbers code index w.globals w.bindings)) { actions = left } }) (patch_cost p) (ordered s code index)) quiet.actions
+        (subst (λ (left : List Act). Gives (record {
+          answer = counted;
+          world = record (rebound (seen_from 0 live w) (source_orders.bindings_after p numbers code index w.globals w.bindings)) { actions = left };
+        })
+        (patch_cost p) (ordered s code index)) quiet.actions
         (carries code index s.room s.actions w.globals counted (keeps_all s.room) agrees holds (subst (λ n. n < 2 ^ 32) (sym counted_is) agrees.small)))
     by_test false =
         subst (λ (left : List Act). Gives (record { answer = 2 ^ 32 - 1; world = ws left }) (patch_cost p) (refused s (2 ^ 32 - 1))) quiet.actions
@@ -282,5 +286,6 @@ module _ (known : Known) (y : Layout) (laid : IsSetOut y) (machine : Machine Wat
         by_live false e =
             subst (λ (left : List Act). Gives (record { answer = 0; world = ws left }) 0 (refused s 0)) quiet.actions (idle holds s.actions 0 0 (omega arith))
         by_live true e =
-            subst (λ (left : List Act). Gives (source_orders.acted p numbers w.actions (ws w.actions)) (poll_cost p w.hart (source_orders.acted p numbers w.actions (ws w.actions)).answer) (acted (record s { actions = left }) left)) (sym quiet.actions)
+            subst (λ (left : List Act). Gives (source_orders.acted p numbers w.actions (ws w.actions))
+            (poll_cost p w.hart (source_orders.acted p numbers w.actions (ws w.actions)).answer) (acted (record s { actions = left }) left)) (sym quiet.actions)
             (by_acts e flip w.actions refl)

@@ -48,6 +48,7 @@ use Rattle.mv_refine_machine.proofs.OfCommits.Fetched.{executes, instr_is, plain
 use Rattle.mv_refine_machine.proofs.OfCommits.Instrs.{return_goes}
 use Rattle.mv_refine_machine.proofs.OfCommits.Loop.{Commits, commits}
 use Rattle.mv_refine_machine.proofs.Starts.{none_older}
+use Rattle.mv_refine_machine.proofs.Fetches.{none_of}
 use Rattle.mv_isa.proofs.LineSteps.{add_four}
 
 -- ---- memory outside text
@@ -111,10 +112,6 @@ pub record Unpatched (image : Fields) (a word : ℕ) : Type 0 where
 none_some : {A : Type 0} {x : A} → None ≡ Some x → ⊥
 none_some e = cc
 
-none_is : {A : Type 0} (o : Option A) → is_some o ≡ false → o ≡ None
-none_is None h = refl
-none_is (Some x) h = absurd (cc)
-
 pub unpatched_told : (image : Fields) (a word : ℕ) → unpatched_word image a ≡ Some word → Unpatched image a word
 unfolding unpatched_word image_word
 unpatched_told image a word e = by_tests (may_be_patched image a) (eqb (a % 4) 0) (ltb a 0x1000) (ltb a 0x0010_0000) refl refl refl refl e
@@ -137,10 +134,10 @@ unpatched_told image a word e = by_tests (may_be_patched image a) (eqb (a % 4) 0
           below = ltb-true a 0x0010_0000 u;
           there = k;
           never = record {
-            no_entry = none_is (entry_at image a) p.0;
-            no_site = none_is (site_at image a) r.0;
-            no_site_before = none_is (site_before image a) s.0;
-            no_point = none_is (point_at image a) s.1;
+            no_entry = none_of (entry_at image a) p.0;
+            no_site = none_of (site_at image a) r.0;
+            no_site_before = none_of (site_before image a) s.0;
+            no_point = none_of (point_at image a) s.1;
           };
         }
 

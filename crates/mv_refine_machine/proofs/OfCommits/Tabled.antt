@@ -32,7 +32,7 @@ use Rattle.mv_image.specs.Spelling.{Fields}
 use Rattle.mv_image.specs.Faults.{Rules}
 use Rattle.mv_image.specs.Patched.{fitting_variant}
 use Rattle.mv_image.proofs.Limits.{is_within}
-use Rattle.mv_patch.specs.Orders.{word_in, words_now, bound_now, is_ordered, is_pointer_ordered, next_binding, next_pointer, pointed_now, bound_to_target, ordered_rows, bound_rows, bindings_after, answer_after, is_known_order}
+use Rattle.mv_patch.specs.Orders.{word_in, words_of_switches, bound_now, is_ordered, is_pointer_ordered, next_binding, next_pointer, pointed_now, bound_to_target, ordered_rows, bound_rows, bindings_ordered, answer_after, is_known_order}
 use Rattle.mv_ir.specs.World.{World}
 use Rattle.mv_machine.specs.Acts.{polls_of}
 use Rattle.mv_machine.specs.Runs.{stored_word, with_value}
@@ -193,7 +193,7 @@ module _ (p : Program) (numbers : List ℕ) (y : Layout) (image : Fields) (table
       let same = tabled.function n g row f e in
       let vs = switch_words p w.globals g.switches in
       let there = tabled.there n g f in
-      let words : words_now image held row ≡ vs = ap (map (λ (s : ℕ). word_in held (slice_get image.switches s))) same ∙ words_are g.switches there in
+      let words : words_of_switches image held row ≡ vs = ap (map (λ (s : ℕ). word_in held (slice_get image.switches s))) same ∙ words_are g.switches there in
       let fits = fits_them n g f in
       record {
         switches = same;
@@ -234,8 +234,8 @@ module _ (p : Program) (numbers : List ℕ) (y : Layout) (image : Fields) (table
     behind : (bs : List Binding) → drop (length image.functions) bs ≡ drop (length (attributed_functions p)) bs
     behind bs = ap (λ n. drop n bs) tabled.functions
 
-    bindings_same : bindings_after image held code index w.bindings ≡ source_orders.bindings_after p numbers code index w.globals w.bindings
-    unfolding bindings_after
+    bindings_same : bindings_ordered image held code index w.bindings ≡ source_orders.bindings_after p numbers code index w.globals w.bindings
+    unfolding bindings_ordered
     bindings_same =
         ap₂ (λ (xs ys : List Binding). xs ++ ys)
         (orders_same (is_ordered code index) (next_binding image held code) (is_addressed code index) (ordered_function p code w.globals) image.functions (attributed_functions p) 0 w.bindings tabled.functions functions_match)
@@ -264,7 +264,7 @@ module _ (p : Program) (numbers : List ℕ) (y : Layout) (image : Fields) (table
 
     pub agrees : Rules image → is_known_order image code index ≡ true → OrderAgrees p numbers image w held code index
     agrees rules known =
-        let bs = bindings_after image held code index w.bindings in
+        let bs = bindings_ordered image held code index w.bindings in
         record { known = known; bindings = bindings_same; answers = answer_same bs; small = answer_small rules bs }
 
 -- ---- flips

@@ -396,7 +396,8 @@ module _ (known : Known) (attributed : List ℕ) (closed : (pc address : ℕ) �
   sound_there i w next h =
       let r = shown i w next h in
       and_from (runs.is_sound closed (plain_spot (now i))) (keeps_text (texts_of image) (now i).memory.under (plain_spot (now i)))
-      (loads_open known image rules input polls picks s out closed i (outside w) next r.leads r.word r.stands r.step_on (λ a may. free (now i).pc r.word a r.there may)) ((taken known image rules input polls picks s out).keeps i (outside w) next r.leads)
+      (loads_open known image rules input polls picks s out closed i (outside w) next r.leads r.word r.stands r.step_on
+      (λ a may. free (now i).pc r.word a r.there may)) ((taken known image rules input polls picks s out).keeps i (outside w) next r.leads)
 
   pub runs_in : IsRun access s machine
   runs_in = record {

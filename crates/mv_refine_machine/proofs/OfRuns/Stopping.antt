@@ -93,7 +93,7 @@ where_over (Exit status) going ended h = refl
 where_over (Trap code) going ended h = refl
 where_over (Fault why) going ended h = refl
 
-commit_more : (first : State) (picks : List ℕ) (n : ℕ) → commit_from first picks (n + 1) ≡ commit_after (runs_from first picks n) (slice_index picks n) (commit_from first picks n)
+pub commit_more : (first : State) (picks : List ℕ) (n : ℕ) → commit_from first picks (n + 1) ≡ commit_after (runs_from first picks n) (slice_index picks n) (commit_from first picks n)
 unfolding commit_from
 commit_more first picks n = ap (commit_from first picks) (add-one n)
 

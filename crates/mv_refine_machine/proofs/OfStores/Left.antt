@@ -47,7 +47,8 @@ between_few image r some other h b =
     let pairs = few_pairs image r some other in
     omega (arith, few, pairs)
 
-pub is_left : (image : Fields) → Rules image → (some other : Bindings) (room : Room) → IsWhole room → room.reserve ≡ patchable image → IsBetween (text_of image some) (text_of image other) room.held → room.spare + count_older room.held.older ≡ patchable image
+pub is_left : (image : Fields) → Rules image → (some other : Bindings) (room : Room) → IsWhole room → room.reserve ≡ patchable image
+    → IsBetween (text_of image some) (text_of image other) room.held → room.spare + count_older room.held.older ≡ patchable image
 is_left image r some other room whole reserve between =
     let few = between_few image r some other room.held between in
     let spare = whole.spare in
@@ -67,7 +68,9 @@ store_remembers room room' a n v text e whole = by_test (eqb (a % n) 0) (slice_g
         ap (λ r. count_older (with_word room.held r (index_of a) w j).older) text ∙ remembered room.held.older (index_of a) w (omega (arith, within, size))
 
     by_test : (b : Bool) (o : Option ℕ) → slice_get (words_of room.held (region_of a)) (index_of a) ≡ o
-        → option_map (with_held a room) (result_ok (cond b (found a o (λ w. with_word room.held (region_of a) (index_of a) w (joined a n w v))) (Err (Misaligned a)))) ≡ Some room' → count_older room'.held.older ≡ suc (count_older room.held.older)
+        → option_map (with_held a room) (result_ok
+        (cond b (found a o (λ w. with_word room.held (region_of a) (index_of a) w (joined a n w v))) (Err (Misaligned a)))) ≡ Some room'
+        → count_older room'.held.older ≡ suc (count_older room.held.older)
     by_test true (Some w) there q =
         let s : with_held a room (with_word room.held (region_of a) (index_of a) w (joined a n w v)) ≡ room' = cc in
         ap (λ (x : Room). count_older x.held.older) (sym s) ∙ in_text w (joined a n w v) there

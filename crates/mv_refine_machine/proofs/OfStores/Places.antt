@@ -28,7 +28,8 @@ pub aligned : (k : ℕ) → place k % 4 ≡ 0
 aligned k = omega arith
 
 -- what holds of each region holds of that of an address
-pub by_region : {R : Type 0} (P : R → Type 0) (b c d e f : Bool) (nowhere text globals stack plan : R) → P nowhere → P text → P globals → P stack → P plan → P (cond b nowhere (cond c text (cond d globals (cond e stack (cond f plan nowhere)))))
+pub by_region : {R : Type 0} (P : R → Type 0) (b c d e f : Bool) (nowhere text globals stack plan : R) → P nowhere → P text → P globals → P stack
+    → P plan → P (cond b nowhere (cond c text (cond d globals (cond e stack (cond f plan nowhere)))))
 by_region P true c d e f nowhere text globals stack plan pn pt pg ps pp = pn
 by_region P false true d e f nowhere text globals stack plan pn pt pg ps pp = pt
 by_region P false false true e f nowhere text globals stack plan pn pt pg ps pp = pg

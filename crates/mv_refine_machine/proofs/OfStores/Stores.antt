@@ -68,7 +68,8 @@ module _ (old new : List ℕ) (texts : AreTexts old new) where
   none_before m k pairs march lt i d below = λ e. (let least = at_least old new m i d pairs march below in omega (arith, least, e, lt))
 
   -- a word for which there is one
-  pub touched : (m : ℕ) (pairs : List Pair) (room : Room) (k w v i : ℕ) (older : List ℕ) (d : Pair) → Marches old new m pairs → i < length pairs → (get_or pairs i d) ≡ (pair_of (place k) v) → At room k w older → At (stored_all room pairs) k v (w ∷ older)
+  pub touched : (m : ℕ) (pairs : List Pair) (room : Room) (k w v i : ℕ) (older : List ℕ) (d : Pair) → Marches old new m pairs → i < length pairs
+      → (get_or pairs i d) ≡ (pair_of (place k) v) → At room k w older → At (stored_all room pairs) k v (w ∷ older)
   unfolding stored_all
   touched m [] room k w v i older d march lt is h = absurd (omega (arith, lt))
   touched m (pair ∷ pairs) room k w v zero older d march lt is h =

@@ -52,7 +52,12 @@ remembered older k w lt =
     omega (arith, e)
 
 -- a word is put into text
-pub put_whole : (room : Room) (k w v : ℕ) → IsWhole room → k < length room.held.text → IsWhole (record { held = record room.held { text = set room.held.text k v; older = remember room.held.older k w }; spare = room.spare - 1; reserve = room.reserve })
+pub put_whole : (room : Room) (k w v : ℕ) → IsWhole room → k < length room.held.text
+    → IsWhole (record {
+      held = record room.held { text = set room.held.text k v; older = remember room.held.older k w };
+      spare = room.spare - 1;
+      reserve = room.reserve;
+    })
 unfolding remember
 put_whole room k w v h lt =
     let size = h.size in

@@ -56,6 +56,6 @@ abbrev pub TabledOrdersAreServed : Type 0
 TabledOrdersAreServed =
     (attributed : List ℕ) (closed : (pc address : ℕ) → Bool) (image : Fields) → Rules image → (input : List (Option ℕ)) (polls : PollActs) → All IsActOfWord polls.acts → (picks : List ℕ) (y : Layout) → IsSetOut y →
     (place entry : ℕ → ℕ) (end : ℕ) → Placed (machine_text attributed image) place entry commit_lines y.commit end → IsPlanOpen closed y.commit →
-    (budget far : ℕ) (numbers : List ℕ) (p : Program) → length numbers ≡ length p.functions → patchable image ≤ counts.patchable p → IsTabled p numbers y image →
+    (budget far : ℕ) (numbers : List ℕ) (p : Program) → length numbers ≡ length p.functions → patchable image ≤ counts.patchable_places p → IsTabled p numbers y image →
     ((code index : ℕ) → y.may_ask (Plan code index) ≡ true → is_known_order image code index ≡ true) →
     ServesOrders access y (narrowed (watched_machine attributed closed image input polls picks) (is_fit p) (machine_text attributed image)) budget far (setting_of numbers p)

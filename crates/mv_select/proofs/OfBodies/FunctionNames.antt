@@ -34,7 +34,8 @@ module _ (place size : ℕ → ℕ) (is_attributed : ℕ → Bool) (shape : Shap
         led_made made (start ++ (body ++ (Label end_label ∷ stop)))
         (made.after start (body ++ (Label end_label ∷ stop)) (entry_made made shape.keeping shape)
         (made.after body (Label end_label ∷ stop)
-        (code_made made (plan place size is_attributed shape) (λ f. C (call_label f)) (λ g. A (place g)) call known end.1 division index code [] (All-nil (λ (e : Enclosing). P e.start)) (All-nil (λ (e : Enclosing). P e.end)) (fall_to end_label) end.1 (end_label + 1)
+        (code_made made (plan place size is_attributed shape) (λ f. C (call_label f)) (λ g. A (place g)) call known end.1 division index code []
+        (All-nil (λ (e : Enclosing). P e.start)) (All-nil (λ (e : Enclosing). P e.end)) (fall_to end_label) end.1 (end_label + 1)
         (λ l from to. own l (omega (arith, to))) named called points)
         (made.after (Label end_label ∷ []) stop (made.label end_label end.0) (return_made made shape.keeping shape))))
 

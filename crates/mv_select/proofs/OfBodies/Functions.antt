@@ -109,7 +109,7 @@ module _ (is_known : ℕ → Bool) where
   array_known (array.SureGlobal g n) h = (h, tt)
   array_known (array.SureLocal l n) h = tt
 
-  callee_known : (f : Callee) → Each (IsKnownArray is_known) (callee_named f) → Each (λ g. is_known g ≡ true) (callee_read f)
+  pub callee_known : (f : Callee) → Each (IsKnownArray is_known) (callee_named f) → Each (λ g. is_known g ≡ true) (callee_read f)
   callee_known (callee.Direct f) h = tt
   callee_known (callee.Through t) h = tt
   callee_known (callee.Switched g) h = (h.0, tt)

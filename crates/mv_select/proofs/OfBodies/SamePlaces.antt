@@ -408,5 +408,6 @@ module _ (b : Body) (formed : IsWellFormed b) where
 
 pub code_is_the_same : CodeIsTheSame
 code_is_the_same y attributed is_attributed b formed rooms =
-    same_lines (has_room b.rooms) (place_in b.rooms) y.place rooms.places (register_of (shape_of attributed b).keeping) (pinned_in (shape_of attributed b).pins) (size_in b.rooms) y.size rooms.sizes is_attributed (shape_of attributed b) refl refl b.code
+    same_lines (has_room b.rooms) (place_in b.rooms) y.place rooms.places (register_of (shape_of attributed b).keeping)
+    (pinned_in (shape_of attributed b).pins) (size_in b.rooms) y.size rooms.sizes is_attributed (shape_of attributed b) refl refl b.code
     (known_reads b formed) (known_arrays b formed)

@@ -11,9 +11,10 @@ use Rattle.mv_isa.specs.Registers.{ra as link_register, a0 as first_register, a1
 use Rattle.mv_ir.specs.declared.tree.Tree.{Tree}
 use Rattle.mv_ir.specs.declared.stm.Callee.{Callee}
 use Rattle.mv_ir.specs.declared.stm.Callee.TheVariants as callee
+use Rattle.mv_ir.specs.Measures.{callee_read}
 use Rattle.mv_select_code.specs.Trees.TreeCode.{Seats, one, number_lines, minus_one, tree_into, tree_lines}
 use Rattle.mv_select_code.specs.Statements.StatementCode.{trap_label, write_temp}
-use Rattle.mv_select_code.specs.Control.Labels.{tree_functions, callee_functions, functions_of_all, callee_pointers}
+use Rattle.mv_select_code.specs.Control.Labels.{tree_functions, callee_functions, functions_of_all}
 use Rattle.mv_select_code.proofs.OfControl.TreeNames.{all_front, all_back}
 use Rattle.mv_select_code.proofs.OfControl.StatementsAreMade.{LineByLine, number_made, into_made}
 use Rattle.mv_select.specs.Calls.CallCode.{request_of, commit_label, result_lines, back_lines, guarded_lines, slot_lines, entry_lines, jump_lines, pointer_lines, argument_lines, transfer_lines, call_lines, order_lines, ask_lines, known_lines}
@@ -92,7 +93,7 @@ module _ {P : List Line → Type 0} {L J Q : ℕ → Type 0} (made : LineByLine 
       passed_made f args r h of_transfer =
           made.after (argument_lines s first_register args) (transfer_lines s is_attributed f r) (argument_made s first_register args (all_back Q (callee_functions f) (functions_of_all args) h)) of_transfer
 
-      pub call_made : (r : Option ℕ) (f : Callee) (args : List Tree) → All Q (callee_functions f ++ functions_of_all args) → All C (callee_functions f) → All (λ g. A (s.place g)) (callee_pointers f)
+      pub call_made : (r : Option ℕ) (f : Callee) (args : List Tree) → All Q (callee_functions f ++ functions_of_all args) → All C (callee_functions f) → All (λ g. A (s.place g)) (callee_read f)
           → P (call_lines s is_attributed r f args)
       call_made r (callee.Direct f) args h e k =
           let named = All-head Q f (functions_of_all args) h in

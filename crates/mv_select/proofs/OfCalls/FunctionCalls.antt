@@ -205,5 +205,10 @@ module _ {M : Type 0} (access : Access M) (y : Layout) (s : Site) (setting : ir.
       let late = r.late in let soon = r.soon in let paid = h.paid in let asked = h.asked in
       transfer_does result f (values setting frame args l) spare q.0 next around bound l z.after m r.time
       (and_left target (callee && trees) parts) (and_left callee trees both)
-      (record { few = omega (arith, few, length-map args (λ t. of_tree setting frame t l)); shown = z.shown; held = λ j lt. z.hold j (omega (arith, lt, length-map args (λ t. of_tree setting frame t l))); keep = conventions_within bound top within keep })
+      (record {
+        few = omega (arith, few, length-map args (λ t. of_tree setting frame t l));
+        shown = z.shown;
+        held = λ j lt. z.hold j (omega (arith, lt, length-map args (λ t. of_tree setting frame t l)));
+        keep = conventions_within bound top within keep;
+      })
       q.2 r.stands (omega (arith, paid, soon, begins)) (omega (arith, asked, late, begun))

@@ -101,4 +101,5 @@ module _ {M : Type 0} (access : Access M) (y : Layout) (s : Site) (setting : ir.
       by_depth true is paid =
           made go result f args spare pc p.0 next around bound l regs m i fine (λ z. omega (arith, z, caller.calls_left, ltb-true frame.depth 512 is)) sh keep goes p.1 p.2 a paid asked
       by_depth false is paid =
-          zero_traps access s machine ok budget far place end 4 left_register spare (length bound) around pc p.0 next l regs m i (left_held l regs m sh ∙ omega (arith, caller.calls_left, ltb-false frame.depth 512 is)) p.1 a (omega (arith, paid))
+          zero_traps access s machine ok budget far place end 4 left_register spare (length bound) around pc p.0 next l regs m i
+          (left_held l regs m sh ∙ omega (arith, caller.calls_left, ltb-false frame.depth 512 is)) p.1 a (omega (arith, paid))

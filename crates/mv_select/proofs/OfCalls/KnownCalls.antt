@@ -227,7 +227,8 @@ module _ {M : Type 0} (access : Access M) (y : Layout) (s : Site) (setting : ir.
         after = g.after;
         runs = (mid, addi_sets (limited access s) m first_register 0 (pos code) regs 0 code code (reg_zero regs) (word_of_pos code (omega (arith, small))) (add_zero code (omega (arith, small))), g.runs);
         shown = shown_saved access y s setting frame caller l regs g.after m g.changes.are
-            (λ q h. g.changes.others q (beside second_register q (saved_apart q second_register (omega arith) (omega arith) h)) ∙ put_other regs first_register q code (omega arith) (saved_apart q first_register (omega arith) (omega arith) h)) f;
+            (λ q h. g.changes.others q (beside second_register q (saved_apart q second_register (omega arith) (omega arith) h))
+            ∙ put_other regs first_register q code (omega arith) (saved_apart q first_register (omega arith) (omega arith) h)) f;
         order = (g.changes.others first_register (inl (omega arith)) ∙ put_same regs first_register code (omega arith) (omega (arith, f.are.count)), g.holds);
         kept = λ j lt. absurd (omega (arith, lt));
       }
@@ -293,7 +294,8 @@ module _ {M : Type 0} (access : Access M) (y : Layout) (s : Site) (setting : ir.
       (to_stands access s machine ok place end budget far 0 (spare + (30 + 3 * nodes_of_all args + cost)) (length bound) pc l i h) in
       let w = straight_walk access y s setting frame fit caller machine ok budget far place end linked is_fine (order_lines k) 3 l.world q.0 u.0 z.after o.after m r.time (order_short k) u.1 o.runs r.stands in
       let a = sets_on access y s setting frame fit caller machine ok budget far place end linked is_fine request l.world u.0 u.2.0 o.after (put o.after request_register (request_of k)) m w.time
-      (addi_sets (limited access s) m request_register 0 (pos (request_of k)) o.after 0 (request_of k) (request_of k) (reg_zero o.after) (word_of_pos (request_of k) (omega (arith, request_small k))) (add_zero (request_of k) (omega (arith, request_small k))))
+      (addi_sets (limited access s) m request_register 0 (pos (request_of k)) o.after 0 (request_of k) (request_of k) (reg_zero o.after)
+      (word_of_pos (request_of k) (omega (arith, request_small k))) (add_zero (request_of k) (omega (arith, request_small k))))
       u.2.1 w.stands in
       let late = r.late in let soon = r.soon in let later = w.late in let sooner = w.soon in let paid = h.paid in let asked = h.asked in
       asked_follows k vs result spare (length bound) u.2.0 next l (put o.after request_register (request_of k)) m (w.time + 1) (may_be_asked k (and_left order (target && trees) parts)) same (and_left target trees both)

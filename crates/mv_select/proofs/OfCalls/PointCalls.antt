@@ -130,7 +130,8 @@ module _ {M : Type 0} (access : Access M) (y : Layout) (s : Site) (setting : ir.
       let call = call_through setting bound g args frame.depth frame.live l.world in
       let same = call_is frame.depth frame.live args l goal result bound in
       let costs : (call_to goal frame.depth frame.live result args bound l).cost ≡ call.cost = ap (λ (r : Run). r.cost) same in
-      let came = keep g frame.depth frame.live args pc i (subst (λ n. 0 < n) (caller.sizes g) (fit.has_word g may)) few (p.1.stands.0 ∙ ap Some (caller.places g)) (spare + 2) l.world (stands args pc l regs m i f a) (comes args pc l regs m i f a held)
+      let came = keep g frame.depth frame.live args pc i (subst (λ n. 0 < n) (caller.sizes g) (fit.has_word g may)) few
+      (p.1.stands.0 ∙ ap Some (caller.places g)) (spare + 2) l.world (stands args pc l regs m i f a) (comes args pc l regs m i f a held)
       (omega (arith, paid, costs)) asked in
       subst (λ (r : Run). F spare (length bound) around next r.outcome) (sym same)
       (back_follows access y s setting frame fit caller machine ok budget far place end linked is_fine result call.end spare (length bound) p.0 next around l regs m fine f p.2

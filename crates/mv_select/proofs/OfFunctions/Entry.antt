@@ -106,7 +106,8 @@ module _ {M : Type 0} (access : Access M) (y : Layout) (laid : IsLaid y) (machin
       let here = stack k (omega arith) in
       let at : add (reg regs 2) (word_of (pos (4 * (first + k)))) ≡ sp + 4 * (first + k) =
       add_word (reg regs 2) (4 * (first + k)) ∙ ap (λ z. add z (4 * (first + k))) e ∙ add_small sp (4 * (first + k)) (omega (arith, here.1, laid.top)) in
-      let put_at = stores_on access y laid machine memory reach ample runs budget far place (saved_register (first + k)) (sp + 4 * (first + k)) (pos (4 * (first + k))) w q.0 q.2.0 regs before.after (i + k) at here are q.2.1 before.stands in
+      let put_at = stores_on access y laid machine memory reach ample runs budget far place (saved_register (first + k)) (sp + 4 * (first + k))
+      (pos (4 * (first + k))) w q.0 q.2.0 regs before.after (i + k) at here are q.2.1 before.stands in
       let more = saved_more first k sp w q.2.0 regs m before.after (i + k) stack before.saved put_at in
       let same : i + k + 1 ≡ i + suc k = omega arith in
       record { after = more.after; stands = subst (Ws w next regs more.after) same (moved w q.2.0 next regs more.after (i + k + 1) (sym q.2.2) more.stands); saved = more.saved }
@@ -130,7 +131,8 @@ module _ {M : Type 0} (access : Access M) (y : Layout) (laid : IsLaid y) (machin
 
   moved_more : (k : ℕ) (regs mid : List ℕ) → k < 8 → Moved k regs mid → Moved (suc k) regs (put mid (temp_register k) (reg regs (a0 + k)))
   moved_more k regs mid small before = record {
-    are = put_registers mid r v before.are (free_above r (omega (arith, register_low k)) (register_below k (omega (arith, small)))) (subst (λ z. z < 2 ^ 32) (before.others (a0 + k) (λ j lt. argument_apart k j small)) (before.are.words (a0 + k)));
+    are = put_registers mid r v before.are (free_above r (omega (arith, register_low k)) (register_below k (omega (arith, small))))
+        (subst (λ z. z < 2 ^ 32) (before.others (a0 + k) (λ j lt. argument_apart k j small)) (before.are.words (a0 + k)));
     moved = λ j lt. ⊎_elim (same j) (other j lt) (cases_eq j k);
     others = λ q away. put_other mid r q v above (away k (omega arith)) ∙ before.others q (λ j lt. away j (omega (arith, lt)));
   }
@@ -168,7 +170,8 @@ module _ {M : Type 0} (access : Access M) (y : Layout) (laid : IsLaid y) (machin
       let from : reg before.after (a0 + k) ≡ v = before.moved.others (a0 + k) (λ j lt. argument_apart k j (omega (arith, small))) in
       let after = put before.after (temp_register k) v in
       let b = sets access y laid machine memory reach ample runs budget far place (Addi (temp_register k) (a0 + k) (pos 0)) w q.0 q.2.0 before.after after m (i + k)
-      (addi_sets (limited access (words_site y reach)) m (temp_register k) (a0 + k) (pos 0) before.after v 0 v from (word_of_pos 0 (omega arith)) (zero_add v (subst (λ z. z < 2 ^ 32) from (before.moved.are.words (a0 + k))))) q.2.1 before.stands in
+      (addi_sets (limited access (words_site y reach)) m (temp_register k) (a0 + k) (pos 0) before.after v 0 v from (word_of_pos 0 (omega arith))
+      (zero_add v (subst (λ z. z < 2 ^ 32) from (before.moved.are.words (a0 + k))))) q.2.1 before.stands in
       let same : i + k + 1 ≡ i + suc k = omega arith in
       record { after = after; stands = subst (Ws w next after m) same (moved w q.2.0 next after m (i + k + 1) (sym q.2.2) b); moved = moved_more k regs before.after (omega (arith, small)) before.moved }
 
@@ -202,7 +205,8 @@ module _ {M : Type 0} (access : Access M) (y : Layout) (laid : IsLaid y) (machin
           (put_same mid (saved_register (first + k)) v (saved_above (first + k)) (omega (arith, before.are.count, saved_below (first + k) small)) ∙ ap (λ o. unwrap_or o 0) (sym load ∙ at))
 
       other : (j u : ℕ) → j < suc k → access.load m (sp + 4 * (first + j)) 4 ≡ Some u → (j ≡ k → ⊥) → reg (put mid (saved_register (first + k)) v) (saved_register (first + j)) ≡ u
-      other j u lt e ne = put_other mid (saved_register (first + k)) (saved_register (first + j)) v (saved_above (first + k)) (saved_apart (first + j) (first + k) (λ e. ne (omega (arith, e)))) ∙ before.restored j u (grind (arith, lt, ne)) e
+      other j u lt e ne = put_other mid (saved_register (first + k)) (saved_register (first + j)) v (saved_above (first + k))
+          (saved_apart (first + j) (first + k) (λ e. ne (omega (arith, e)))) ∙ before.restored j u (grind (arith, lt, ne)) e
 
   pub restore_walk : (first k sp : ℕ) (w : World) (pc next : ℕ) (regs : List ℕ) (m : M) (i : ℕ) → first + k ≤ 10 → reg regs 2 ≡ sp → ((j : ℕ) → j < k → IsStack y (sp + 4 * (first + j))) → AreRegisters regs
       → Ps (restore_lines first k) pc next → Ws w pc regs m i → Restores first k sp w next regs m (i + k)

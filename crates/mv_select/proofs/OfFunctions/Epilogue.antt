@@ -121,7 +121,9 @@ module _ {M : Type 0} (access : Access M) (y : Layout) (laid : IsLaid y) (machin
               (pins_off_rest k body.params body.temps (pins_of k body) t is.pins saved le small)
 
       pub epilogue_walk : (back_to pc next i : ℕ) → body.params ≤ 8 → body.params ≤ body.temps → reg before 2 ≡ caller → reg before live_register ≡ live → live + 1 < 2 ^ 32
-          → reg before link_register ≡ back_to → IsTarget back_to → Ps (epilogue_lines k attributed (seated_of (shape_at attributed k body)) (bytes_of (shape_at attributed k body))) pc next → Ws w pc regs m i → Unwound access y laid machine memory reach ample runs budget far place before m0 back_to w regs m i
+          → reg before link_register ≡ back_to → IsTarget back_to
+          → Ps (epilogue_lines k attributed (seated_of (shape_at attributed k body)) (bytes_of (shape_at attributed k body))) pc next → Ws w pc regs m i
+          → Unwound access y laid machine memory reach ample runs budget far place before m0 back_to w regs m i
       epilogue_walk back_to pc next i few enough from live_before small ra target lines a = record {
         after = after;
         time = c.time + count + 1 + 1;
@@ -145,7 +147,8 @@ module _ {M : Type 0} (access : Access M) (y : Layout) (laid : IsLaid y) (machin
           u = placed_split machine.text place y.entry (restore_lines first count) (two (Addi 2 2 (pos (bytes_of (shape_at attributed k body)))) (Jalr 0 link_register (pos 0))) q.0 next q.2
 
           c : Counted access y laid machine memory reach ample runs budget far place live w q.0 regs m i
-          c = leave_walk access y laid machine memory reach ample runs budget far place attributed live w pc q.0 regs m i f.are small (f.left live_register (behind_left k seated live_register saved (omega arith) (omega arith)) ∙ p.live_is) q.1 a
+          c = leave_walk access y laid machine memory reach ample runs budget far place attributed live w pc q.0 regs m i f.are small
+              (f.left live_register (behind_left k seated live_register saved (omega arith) (omega arith)) ∙ p.live_is) q.1 a
 
           sp_held : reg c.after 2 ≡ sp
           sp_held = c.others 2 (λ e. omega (arith, e)) ∙ f.left 2 (stack_left k seated) ∙ p.sp_is

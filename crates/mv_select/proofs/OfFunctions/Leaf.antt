@@ -140,9 +140,6 @@ module _ {M : Type 0} (access : Access M) (y : Layout) (laid : IsLaid y) (machin
     abbrev bytes : ℕ
     bytes = bytes_of (shape_at attributed Arguments body)
 
-    abbrev moved_by : ℕ
-    moved_by = frame_of (shape_at attributed Arguments body)
-
     -- a temporary's register isn't sp, s10 or s11
     seat_low : (t q : ℕ) → register_of Arguments t ≡ Some q → (2 < q) × (q < 26)
     seat_low t q seat = let s = argument_some t q seat in let lt = s.0 in let is = s.1 in (omega arith, omega arith)
@@ -249,7 +246,9 @@ module _ {M : Type 0} (access : Access M) (y : Layout) (laid : IsLaid y) (machin
                 (omega (arith, sp_held, is.below, is.high, laid.top)) lines a
 
             link_is : reg r.2.after link_register ≡ back_to
-            link_is = r.2.others link_register (λ q. omega (arith, q)) ∙ f.left link_register refl ∙ same link_register (λ q. omega (arith, q)) (pins_below Arguments (max body.temps 1) (pins_of Arguments body) link_register is.pins.stand (omega arith)) ∙ ra
+            link_is = r.2.others link_register (λ q. omega (arith, q)) ∙ f.left link_register refl
+                ∙ same link_register (λ q. omega (arith, q)) (pins_below Arguments (max body.temps 1)
+                (pins_of Arguments body) link_register is.pins.stand (omega arith)) ∙ ra
 
             kept : (q : ℕ) → IsSaved q → q ≢ 2 → reg r.2.after q ≡ reg before q
             kept q saved ne = r.2.others q ne ∙ f.left q (argument_leaves (seated_of (shape_at attributed Arguments body)) q saved)

@@ -68,7 +68,8 @@ module _ {M : Type 0} (access : Access M) (y : Layout) (laid : IsLaid y) (machin
     are = d.are;
     sp_is = d.others 2 (λ e. omega (arith, e)) ∙ f.others 2 (pins_below shape.keeping (first_pin shape.keeping shape.temps) shape.pins 2 pins.stand (omega arith)) ∙ c.moved.others 2 (λ j lt. temp_low 2 j (omega arith)) ∙ sp_now;
     live_is = d.live;
-    held = λ j lt. d.others (temp_register j) (λ e. omega (arith, e, register_high j (omega (arith, lt, moving, few)))) ∙ f.others (temp_register j) (pins_off_moving shape.keeping shape.params shape.temps shape.pins j pins enough lt) ∙ c.moved.moved j lt
+    held = λ j lt. d.others (temp_register j) (λ e. omega (arith, e, register_high j (omega (arith, lt, moving, few))))
+        ∙ f.others (temp_register j) (pins_off_moving shape.keeping shape.params shape.temps shape.pins j pins enough lt) ∙ c.moved.moved j lt
         ∙ put_other before 2 (a0 + j) sp (omega arith) (λ e. omega (arith, e)) ∙ held j (omega (arith, lt, moving));
     pinned = λ n q e. d.others q (pin_counted n q e) ∙ f.holds n q e;
     others = λ q two live away apart. d.others q live ∙ f.others q apart ∙ c.moved.others q away ∙ put_other before 2 q sp (omega arith) two;
@@ -100,8 +101,10 @@ module _ {M : Type 0} (access : Access M) (y : Layout) (laid : IsLaid y) (machin
       are_now : AreRegisters (put before 2 sp)
       are_now = put_registers before 2 sp are (free_low 2 (omega arith) (omega arith)) below
 
-      q : (mid : ℕ) × Ps (save_lines (first_saved shape.keeping) (saved_count shape.keeping (seated_of shape))) pc mid × Ps (parameter_lines (moving_words shape.keeping shape.params) ++ (pin_lines shape.pins ++ enter_lines shape.attributed)) mid next
-      q = placed_split machine.text place y.entry (save_lines (first_saved shape.keeping) (saved_count shape.keeping (seated_of shape))) (parameter_lines (moving_words shape.keeping shape.params) ++ (pin_lines shape.pins ++ enter_lines shape.attributed)) pc next p
+      q : (mid : ℕ) × Ps (save_lines (first_saved shape.keeping) (saved_count shape.keeping (seated_of shape))) pc mid
+          × Ps (parameter_lines (moving_words shape.keeping shape.params) ++ (pin_lines shape.pins ++ enter_lines shape.attributed)) mid next
+      q = placed_split machine.text place y.entry (save_lines (first_saved shape.keeping) (saved_count shape.keeping (seated_of shape)))
+          (parameter_lines (moving_words shape.keeping shape.params) ++ (pin_lines shape.pins ++ enter_lines shape.attributed)) pc next p
 
       u : (mid : ℕ) × Ps (parameter_lines (moving_words shape.keeping shape.params)) q.0 mid × Ps (pin_lines shape.pins ++ enter_lines shape.attributed) mid next
       u = placed_split machine.text place y.entry (parameter_lines (moving_words shape.keeping shape.params)) (pin_lines shape.pins ++ enter_lines shape.attributed) q.0 next q.2
@@ -113,15 +116,22 @@ module _ {M : Type 0} (access : Access M) (y : Layout) (laid : IsLaid y) (machin
       b = save_walk access y laid machine memory reach ample runs budget far place (first_saved shape.keeping) (saved_count shape.keeping (seated_of shape)) sp w pc q.0 now m0 (i + 1) within sp_now
           (λ j lt. saved_words y shape saved sp caller is (first_saved shape.keeping + j) (omega (arith, lt, within))) are_now q.1 a
 
-      c : Moves access y laid machine memory reach ample runs budget far place (moving_words shape.keeping shape.params) w u.0 (put before 2 sp) b.after (i + 1 + saved_count shape.keeping (seated_of shape) + moving_words shape.keeping shape.params)
-      c = parameter_walk access y laid machine memory reach ample runs budget far place (moving_words shape.keeping shape.params) w q.0 u.0 now b.after (i + 1 + saved_count shape.keeping (seated_of shape)) (omega (arith, moving, few)) are_now u.1 b.stands
+      c : Moves access y laid machine memory reach ample runs budget far place (moving_words shape.keeping shape.params) w u.0
+          (put before 2 sp) b.after (i + 1 + saved_count shape.keeping (seated_of shape) + moving_words shape.keeping shape.params)
+      c = parameter_walk access y laid machine memory reach ample runs budget far place
+          (moving_words shape.keeping shape.params) w q.0 u.0 now b.after (i + 1 + saved_count shape.keeping (seated_of shape))
+          (omega (arith, moving, few)) are_now u.1 b.stands
 
       f : Pinned access y laid machine memory reach ample runs budget far place shape.pins w v.0 c.after b.after (i + 1 + saved_count shape.keeping (seated_of shape) + moving_words shape.keeping shape.params)
-      f = pin_walk access y laid machine memory reach ample runs budget far place shape.keeping (first_pin shape.keeping shape.temps) shape.pins w u.0 v.0 c.after b.after (i + 1 + saved_count shape.keeping (seated_of shape) + moving_words shape.keeping shape.params)
+      f = pin_walk access y laid machine memory reach ample runs budget far place shape.keeping
+          (first_pin shape.keeping shape.temps) shape.pins w u.0 v.0 c.after b.after
+          (i + 1 + saved_count shape.keeping (seated_of shape) + moving_words shape.keeping shape.params)
           pins.stand c.moved.are v.1 c.stands
 
       live_now : reg f.after live_register ≡ live
-      live_now = f.others live_register (pins_above shape.keeping (first_pin shape.keeping shape.temps) shape.pins live_register pins.stand (omega arith)) ∙ c.moved.others live_register (λ j lt. temp_high live_register j (omega arith) (omega (arith, lt, moving, few))) ∙ put_other before 2 live_register sp (omega arith) (λ e. omega (arith, e)) ∙ live_before
+      live_now = f.others live_register (pins_above shape.keeping (first_pin shape.keeping shape.temps) shape.pins live_register pins.stand (omega arith))
+          ∙ c.moved.others live_register (λ j lt. temp_high live_register j (omega arith) (omega (arith, lt, moving, few)))
+          ∙ put_other before 2 live_register sp (omega arith) (λ e. omega (arith, e)) ∙ live_before
 
       d : Counted access y laid machine memory reach ample runs budget far place (live + cond shape.attributed 1 0) w next f.after b.after f.time
       d = enter_walk access y laid machine memory reach ample runs budget far place shape.attributed live w v.0 next f.after b.after f.time f.are small live_now v.2 f.stands

@@ -1,6 +1,5 @@
--- Whether code calls nothing, at each variant and one statement on.
-use Rattle.std.proofs.Common.{◌≡◌, ℕ, ◌+◌, ◌<◌, ◌&&◌, Bool, true, false, List, drop, length, get_or, Option, sym, ap, ◌∙◌}
-use Rattle.std.proofs.lemmas.List.{drop_more}
+-- Whether code calls nothing, at each variant.
+use Rattle.std.proofs.Common.{◌≡◌, ℕ, ◌&&◌, Bool, true, false, List, Option, sym, ap, ◌∙◌}
 use Rattle.mv_ast.specs.declared.program.Known.{Known}
 use Rattle.mv_ir.specs.declared.tree.Tree.{Tree}
 use Rattle.mv_ir.specs.declared.stm.Array.{Array}
@@ -65,8 +64,3 @@ pub silent_return : (v : Tree) → is_silent (at.Return v) ≡ true
 silent_return v = ap is_silent (sym (rolls-Return v)) ∙ silent_roll (stm.Return v)
 
 pub ruleset silent = (silent_set, silent_set_global, silent_divide, silent_check, silent_read, silent_write, silent_zero, silent_if, silent_loop, silent_block, silent_break, silent_back, silent_call, silent_known, silent_return)
-
--- ---- one statement on
-
-pub silent_on : (code : List Stm) (i : ℕ) (s : Stm) → i < length code → s ≡ get_or code i s → calls_nothing (drop i code) ≡ (is_silent s && calls_nothing (drop (i + 1) code))
-silent_on code i s lt is = ap calls_nothing (drop_more code i s lt) ∙ ap (λ u. is_silent u && calls_nothing (drop (i + 1) code)) (sym is)

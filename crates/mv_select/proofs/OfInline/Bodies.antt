@@ -97,7 +97,9 @@ module _ {M : Type 0} (access : Access M) (y : Layout) (laid : IsLaid y) (machin
 
   stored_there : (g : ℕ) (v : Tree) → Fine (roll-Stm (stm.SetGlobal g v) ∷ []) ≡ true → 0 < y.size g
   stored_there g v e =
-      ltb-true 0 (y.size g) (and_left (ltb 0 (y.size g)) (reach.is_written g) (and_left (ltb 0 (y.size g) && reach.is_written g) (is_fine v) (sym (fine_roll is_fine y.may_ask body.temps (uses_in y.size reach true) (stm.SetGlobal g v)) ∙ fine_alone (stm.SetGlobal g v) e)))
+      ltb-true 0 (y.size g) (and_left (ltb 0 (y.size g)) (reach.is_written g)
+      (and_left (ltb 0 (y.size g) && reach.is_written g) (is_fine v)
+      (sym (fine_roll is_fine y.may_ask body.temps (uses_in y.size reach true) (stm.SetGlobal g v)) ∙ fine_alone (stm.SetGlobal g v) e)))
 
   -- the global that is returned is one that the code reads
   read_alone : (g : ℕ) → Contains (scalars_read (roll-Stm (stm.Return (roll-Tree (tree.Global g))) ∷ [])) g
@@ -129,7 +131,8 @@ module _ {M : Type 0} (access : Access M) (y : Layout) (laid : IsLaid y) (machin
       → body.code ≡ roll-Stm (stm.Return (roll-Tree x)) ∷ [] → S p (E (roll-Stm (stm.Return (roll-Tree x)) ∷ []))
   of_return (tree.Number n) p e fine is =
       as_shape (number_pair n) p (Returned (Some n) w) (E (roll-Stm (stm.Return (roll-Tree (tree.Number n))) ∷ [])) (same_Some (number_pair n) p e) (returns (tree.Number n))
-      (number_done access y laid machine memory reach ample runs budget far bound body at here depth live args k i spare w stands enters paid asked n (ltb-true n (2 ^ 32) (named (tree.Number n) (returned_fine (roll-Tree (tree.Number n)) fine))))
+      (number_done access y laid machine memory reach ample runs budget far bound body at here depth live args k i spare w stands enters paid asked n
+      (ltb-true n (2 ^ 32) (named (tree.Number n) (returned_fine (roll-Tree (tree.Number n)) fine))))
   of_return (tree.Temp t) p e fine is =
       let lt = is_argument t (chosen_test (ltb t body.params) (parameter_pair t) p e) in
       as_shape (parameter_pair t) p (Returned (Some (slice_index args t)) w) (E (roll-Stm (stm.Return (roll-Tree (tree.Temp t))) ∷ [])) (chosen (ltb t body.params) (parameter_pair t) p e)
@@ -139,7 +142,8 @@ module _ {M : Type 0} (access : Access M) (y : Layout) (laid : IsLaid y) (machin
       let reads : reach.is_read g ≡ true = named (tree.Global g) (returned_fine (roll-Tree (tree.Global g)) fine) in
       as_shape (load_pair (y.place g)) p (Returned (Some (scalar w.globals g)) w) (E (roll-Stm (stm.Return (roll-Tree (tree.Global g))) ∷ [])) (same_Some (load_pair (y.place g)) p e)
       (returns (tree.Global g) ∙ ap (λ o. Returned (Some (read_as o (scalar w.globals g))) w) (fn.free g reads))
-      (load_done access y laid machine memory reach ample runs budget far bound body at here depth live args k i spare w stands enters paid asked g reads (fn.read g reads) (subst (λ c. Contains (scalars_read c) g) (sym is) (read_alone g)) (fn.free g reads))
+      (load_done access y laid machine memory reach ample runs budget far bound body at here depth live args k i spare w stands enters paid asked g reads
+      (fn.read g reads) (subst (λ c. Contains (scalars_read c) g) (sym is) (read_alone g)) (fn.free g reads))
   of_return (tree.Function f) p e fine is = absurd (none-some p e)
   of_return (tree.Unary o a) p e fine is = absurd (none-some p e)
   of_return (tree.Binary o a b) p e fine is = absurd (none-some p e)

@@ -122,4 +122,20 @@ pub ruleset returned = (return_number, return_temp, return_global, return_functi
 
 pub ruleset stored = (set_number, set_temp, set_global, set_function, set_unary, set_binary, set_narrow)
 
-pub ruleset alone = (statement_set, statement_setglobal, statement_divide, statement_check, statement_read, statement_write, statement_zero, statement_if, statement_loop, statement_block, statement_break, statement_back, statement_call, statement_known, statement_return)
+pub ruleset alone = (
+  statement_set,
+  statement_setglobal,
+  statement_divide,
+  statement_check,
+  statement_read,
+  statement_write,
+  statement_zero,
+  statement_if,
+  statement_loop,
+  statement_block,
+  statement_break,
+  statement_back,
+  statement_call,
+  statement_known,
+  statement_return,
+)

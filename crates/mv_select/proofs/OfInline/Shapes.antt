@@ -100,7 +100,8 @@ module _ {M : Type 0} (access : Access M) (y : Layout) (laid : IsLaid y) (machin
       with_value one nop v w after after (same_memory one nop after after p q does (nop_sets (own access y machine reach runs budget far) m after) are others) others (result_same v R stands.are)
       (no_load y bound body one R none) (no_load y bound body nop after refl)
 
-  by_two : (one two : Instr) (u v : ℕ) → u < 2 ^ 32 → v < 2 ^ 32 → Sets (own access y machine reach runs budget far) m one R (put R result_register u) → Sets (own access y machine reach runs budget far) m two (put R result_register u) (put (put R result_register u) result_register v)
+  by_two : (one two : Instr) (u v : ℕ) → u < 2 ^ 32 → v < 2 ^ 32 → Sets (own access y machine reach runs budget far) m one R (put R result_register u)
+      → Sets (own access y machine reach runs budget far) m two (put R result_register u) (put (put R result_register u) result_register v)
       → loads_from one R ≡ None → LoadsRead y bound body two (put R result_register u) → Shape (one, two) (Returned (Some v) w)
   by_two one two u v low small does then none loads p q =
       let mid = put R result_register u in
@@ -135,7 +136,8 @@ module _ {M : Type 0} (access : Access M) (y : Layout) (laid : IsLaid y) (machin
       long ne =
           let up = upper (pos (upper_bits n)) in
           subst (λ is_short. Shape (by_length n is_short) (Returned (Some n) w)) (sym (ne_eqb (upper_bits n) 0 ne))
-          (by_two (Lui result_register (pos (upper_bits n))) (Addi result_register result_register (lower_bits n)) up n (upper_below n) small (lui_sets (own access y machine reach runs budget far) m result_register (pos (upper_bits n)) R up refl)
+          (by_two (Lui result_register (pos (upper_bits n))) (Addi result_register result_register (lower_bits n)) up n (upper_below n) small
+          (lui_sets (own access y machine reach runs budget far) m result_register (pos (upper_bits n)) R up refl)
           (addi_sets (own access y machine reach runs budget far) m result_register result_register (lower_bits n) (put R result_register up) up (word_of (lower_bits n)) n (result_same up R stands.are) refl (parts_add n small))
           refl (no_load y bound body (Addi result_register result_register (lower_bits n)) (put R result_register up) refl))
 
@@ -172,7 +174,8 @@ module _ {M : Type 0} (access : Access M) (y : Layout) (laid : IsLaid y) (machin
       let loads : (own access y machine reach runs budget far).load m a 4 ≡ Some (scalar w.globals g) =
       ap (λ c. cond c (access.load m a 4) None) may ∙ ap (λ b. access.load m b 4) same ∙ stands.globals.loads g 0 lt in
       by_two (Lui result_register (pos (upper_bits a))) (Lw result_register result_register (lower_bits a)) up (scalar w.globals g) (upper_below a) (stands.globals.words g 0 lt)
-      (lui_sets (own access y machine reach runs budget far) m result_register (pos (upper_bits a)) R up refl) (lw_sets (own access y machine reach runs budget far) m result_register result_register (lower_bits a) mid a (scalar w.globals g) to loads)
+      (lui_sets (own access y machine reach runs budget far) m result_register (pos (upper_bits a)) R up refl)
+      (lw_sets (own access y machine reach runs budget far) m result_register result_register (lower_bits a) mid a (scalar w.globals g) to loads)
       refl (λ b e. (g, reads, free, sym (same_Some (add (reg mid result_register) (word_of (lower_bits a))) b e) ∙ to))
 
   -- ---- a store of a parameter
@@ -195,5 +198,6 @@ module _ {M : Type 0} (access : Access M) (y : Layout) (laid : IsLaid y) (machin
       let came = comes access y machine reach runs budget far w (set_in w g v) at spare k i mid mid stored.after refl
       (put_registers R address_register up stands.are (free_above address_register (omega arith) (omega arith)) (upper_below a)) others stored.globals stored.stack paid asked
       (two_steps access y machine reach runs budget far one two at here p q w R mid mid m stored.after i (lui_sets (own access y machine reach runs budget far) m address_register (pos (upper_bits a)) R up refl)
-      (sw_moves (own access y machine reach runs budget far) (globals_site y reach) address_register (result_register + t) (lower_bits a) mid m stored.after a v to value stored.stored) stored.writes (begun access y machine reach runs budget far w at i stands)) in
+      (sw_moves (own access y machine reach runs budget far) (globals_site y reach) address_register (result_register + t)
+      (lower_bits a) mid m stored.after a v to value stored.stored) stored.writes (begun access y machine reach runs budget far w at i stands)) in
       no_value one two (set_in w g v) mid mid came others (no_load y bound body one R refl) (no_load y bound body two mid refl)

@@ -122,7 +122,8 @@ module _ {M : Type 0} (access : Access M) (y : Layout) (machine : Machine M) (te
         record { registers = same_regs; stands = stands_too to w (i + 1) next.stands; enters = entered; follows = follows }
       where
         does : LineRuns (own access y laid narrowed nothing runs budget far) text.word (machine.run i).memory at (at + 4) to (machine.run i).regs (line.Jump 0 0)
-        does = line_runs (own access y laid narrowed nothing runs budget far) (machine.run i).memory text.word (λ l. to) (λ l. to) at (at + 4) (line.Jump 0 0) (record { jump = jump; end_is = refl }) (omega arith) here there (machine.run i).regs stands.are.count
+        does = line_runs (own access y laid narrowed nothing runs budget far) (machine.run i).memory text.word (λ l. to) (λ l. to) at (at + 4)
+            (line.Jump 0 0) (record { jump = jump; end_is = refl }) (omega arith) here there (machine.run i).regs stands.are.count
 
         next : Stepped access y laid narrowed nothing runs budget far to (put (machine.run i).regs 0 (at + 4)) w i
         next = stepped access y laid narrowed nothing runs budget far at to (put (machine.run i).regs 0 (at + 4)) w i (subst (λ r. AreRegisters r) (sym (put_zero (machine.run i).regs (at + 4))) stands.are) does

@@ -11,7 +11,7 @@ use Rattle.mv_ir.specs.declared.stm.Stm.TheOpen.{Stm-F}
 use Rattle.mv_ir.specs.declared.stm.Stm.TheOpen as stm
 use Rattle.mv_ir.specs.declared.stm.Stm.TheViews.{roll-Stm}
 use Rattle.mv_ir.specs.declared.stm.Stm.TheFolds.{map-Stm}
-use Rattle.mv_ir.specs.Measures.{joined}
+use Rattle.mv_ir.specs.Measures.{joined, callee_read}
 use Rattle.mv_ir.proofs.Induction.{Each, StmChildren, stm_ind, stms_ind}
 use Rattle.mv_select_code.specs.Trees.TreeCode.{branch_lines}
 use Rattle.mv_select_code.specs.Statements.StatementCode.{first, second, bounds_lines, clear_lines, result_lines, trap_label}
@@ -20,13 +20,13 @@ use Rattle.mv_select_code.specs.declared.control.enclosing.Leading.{Leading}
 use Rattle.mv_select_code.specs.declared.control.enclosing.Leading.TheVariants as lead
 use Rattle.mv_select_code.specs.declared.control.enclosing.Way.{Way}
 use Rattle.mv_select_code.specs.Control.FlowCode.{Plan, Tested, Emitted, in_turn, enclosing_at, fall_to, jump_to, go_to, go_on, leads_to, if_leads, loop_at, block_at, straight_loop, turned_loop, loop_by, zero_lines, home, size, tests, code_layer, code_of, loop_of, statement_code}
-use Rattle.mv_select_code.specs.Control.Labels.{named_layer, stm_functions, tree_functions, callee_functions, functions_of_all, functions, callee_pointers, pointers_layer, stm_pointers, pointers}
+use Rattle.mv_select_code.specs.Control.Labels.{named_layer, stm_functions, tree_functions, callee_functions, functions_of_all, functions, pointers_layer, stm_pointers, pointers}
 use Rattle.mv_select_code.proofs.OfControl.Equations.{code_roll, if_stays, loop_stays}
 use Rattle.mv_select_code.proofs.OfControl.TreeNames.{all_front, all_back, named_roll, pointers_roll}
 use Rattle.mv_select_code.proofs.OfControl.StatementsAreMade.{LineByLine, branch_made, result_made, go_to_made, go_on_made, set_made, set_global_made, divide_made, check_made, read_made, write_made, bounds_made, clear_made}
 
 module _ {P : List Line → Type 0} {L J Q : ℕ → Type 0} (made : LineByLine P L J Q) (plan : Plan) (R : ℕ → Type 0)
-    (call : (r : Option ℕ) (f : Callee) (args : List Tree) → All Q (callee_functions f ++ functions_of_all args) → All R (callee_pointers f) → P (plan.calls.call r f args))
+    (call : (r : Option ℕ) (f : Callee) (args : List Tree) → All Q (callee_functions f ++ functions_of_all args) → All R (callee_read f) → P (plan.calls.call r f args))
     (known : (r : Option ℕ) (k : Known) (args : List Tree) → All Q (functions_of_all args) → P (plan.calls.known r k args))
     (end : J plan.end) (division : J (trap_label 1)) (index : J (trap_label 2)) where
   -- what encloses some code is of the kind J, and the labels that the code takes are of both kinds
@@ -257,7 +257,7 @@ module _ {P : List Line → Type 0} {L J Q : ℕ → Type 0} (made : LineByLine 
 
 -- The same where a function that is called by name is of one more kind.
 module _ {P : List Line → Type 0} {L J Q : ℕ → Type 0} (made : LineByLine P L J Q) (plan : Plan) (C R : ℕ → Type 0)
-    (call : (r : Option ℕ) (f : Callee) (args : List Tree) → All Q (callee_functions f ++ functions_of_all args) → All C (callee_functions f) → All R (callee_pointers f) → P (plan.calls.call r f args))
+    (call : (r : Option ℕ) (f : Callee) (args : List Tree) → All Q (callee_functions f ++ functions_of_all args) → All C (callee_functions f) → All R (callee_read f) → P (plan.calls.call r f args))
     (known : (r : Option ℕ) (k : Known) (args : List Tree) → All Q (functions_of_all args) → P (plan.calls.known r k args))
     (end : J plan.end) (division : J (trap_label 1)) (index : J (trap_label 2)) where
   abbrev Both : ℕ → Type 0

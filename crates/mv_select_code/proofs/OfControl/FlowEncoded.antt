@@ -279,7 +279,8 @@ module _ (plan : Plan) (seats : AreSeats plan.seats) (within : (a : ℕ) → pla
       let n = bound (joined (map stm_trees a)) (total (map stm_words a)) in
       let k = bound (joined (map stm_trees b)) (total (map stm_words b)) in
       wider (2 * nodes_of t + (3 + (n + k)) + jumps way) _ _
-      (if_holds t test one.alone other.alone one other n k (in_order_holds a h.0 (and_left (all_true (smalls a)) (all_true (smalls b)) both)) (in_order_holds b h.1 (and_right (all_true (smalls a)) (all_true (smalls b)) both)) around label way)
+      (if_holds t test one.alone other.alone one other n k (in_order_holds a h.0 (and_left (all_true (smalls a)) (all_true (smalls b)) both))
+      (in_order_holds b h.1 (and_right (all_true (smalls a)) (all_true (smalls b)) both)) around label way)
       (omega (arith, nodes_append (joined (map stm_trees a)) (joined (map stm_trees b))))
 
   stays_layer : (x : Stm-F Stm) → StmChildren StmHolds x → IfSome (code_layer plan (map-Stm Stm Emitted (statement_code plan) x)).stays (TestedHolds (small_layer x) (bound_layer x))

@@ -11,7 +11,7 @@ use Rattle.mv_ir.specs.declared.stm.Stm.TheOpen.{Stm-F}
 use Rattle.mv_ir.specs.declared.stm.Stm.TheOpen as stm
 use Rattle.mv_ir.specs.declared.stm.Stm.TheViews.{roll-Stm}
 use Rattle.mv_ir.specs.declared.stm.Stm.TheFolds.{map-Stm}
-use Rattle.mv_ir.specs.Measures.{total, layer_size, stm_size}
+use Rattle.mv_ir.specs.Measures.{callee_read, total, layer_size, stm_size}
 use Rattle.mv_ir.proofs.Rolls.{size_roll}
 use Rattle.mv_ir.proofs.Induction.{Each, StmChildren, stm_ind, stms_ind}
 use Rattle.mv_select_code.specs.Trees.TreeCode.{branch_lines}
@@ -21,7 +21,7 @@ use Rattle.mv_select_code.specs.declared.control.enclosing.Leading.{Leading}
 use Rattle.mv_select_code.specs.declared.control.enclosing.Leading.TheVariants as lead
 use Rattle.mv_select_code.specs.declared.control.enclosing.Way.{Way}
 use Rattle.mv_select_code.specs.Control.FlowCode.{Plan, Tested, Emitted, fall_to, jump_to, go_to, go_on, leads_to, if_leads, in_turn, plain, enclosing_at, zero_lines, loop_at, block_at, straight_loop, loop_by, home, size, tests, code_layer, statement_code, loop_of}
-use Rattle.mv_select_code.specs.Control.Labels.{Names, CallsName, OwnLabels, LabelsAreOwn, LabelsAreFew, tree_functions, callee_functions, callee_pointers}
+use Rattle.mv_select_code.specs.Control.Labels.{Names, CallsName, OwnLabels, LabelsAreOwn, LabelsAreFew, tree_functions, callee_functions}
 use Rattle.mv_select_code.proofs.OfControl.Equations.{code_roll, if_stays, loop_stays}
 use Rattle.mv_select_code.proofs.OfControl.TreeNames.{AnyNumber, all_any}
 use Rattle.mv_select_code.proofs.OfControl.StatementsAreMade.{LineByLine, names_made, branch_made, result_made, go_to_made, go_on_made, set_made, set_global_made, divide_made, check_made, read_made, write_made, bounds_made, clear_made}
@@ -284,7 +284,7 @@ module _ (plan : Plan) (calls : CallsName AnyNumber plan.calls) where
   layer (stm.Break n) h = λ around label way.
       let to = (enclosing_at around n plan.end).end in silent_own AnyNumber label (go_to way to) (go_to_made named plan.seats way to tt)
   layer (stm.Back n) h = λ around label way. let to = (enclosing_at around n plan.end).start in silent_own AnyNumber label (Jump 0 to ∷ []) (named.jump to tt)
-  layer (stm.Call r f args) h = plain_own _ (calls.call r f args (all_any _) (all_any (callee_functions f)) (all_any (callee_pointers f)))
+  layer (stm.Call r f args) h = plain_own _ (calls.call r f args (all_any _) (all_any (callee_functions f)) (all_any (callee_read f)))
   layer (stm.Known r k args) h = plain_own _ (calls.known r k args (all_any _))
   layer (stm.Block b) h = λ around label way. in_order_own b h (block_at way ∷ around) label way
   layer (stm.Loop b) h = loop_own b h

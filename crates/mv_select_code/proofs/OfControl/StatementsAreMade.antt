@@ -10,7 +10,7 @@ use Rattle.mv_ir.specs.declared.tree.Tree.TheOpen.{Tree-F}
 use Rattle.mv_ir.specs.declared.tree.Tree.TheOpen as tree
 use Rattle.mv_ir.specs.declared.tree.Tree.TheViews.{roll-Tree}
 use Rattle.mv_ir.proofs.Induction.{TreeChildren, tree_ind}
-use Rattle.mv_select_code.specs.Trees.TreeCode.{Seats, one, two, upper_bits, lower_bits, near, number_lines, load_by, load_lines, temp_offset, literal, unless, own_register, tree_into, tree_lines, operand_lines, operand_register, is_taken, word_branch, comparison, branch_lines}
+use Rattle.mv_select_code.specs.Trees.TreeCode.{Seats, one, two, upper_bits, lower_bits, near, number_lines, load_lines, temp_offset, literal, unless, own_register, tree_into, tree_lines, operand_lines, operand_register, is_taken, word_branch, comparison, branch_lines}
 use Rattle.mv_select_code.proofs.OfTrees.Rolls.{word_lines, compared_or, branch_tree, branch_roll}
 use Rattle.mv_select_code.proofs.OfTrees.TreesAreMade as trees
 use Rattle.mv_select_code.specs.declared.trees.leaves.Based.{Based}
@@ -41,12 +41,7 @@ module _ {P : List Line → Type 0} {L J Q : ℕ → Type 0} (made : LineByLine 
   number_made = trees.number_made P P made.none (λ a h. h) (λ i plain. made.word i) made.after
 
   load_made : (a r : ℕ) → P (load_lines a r)
-  unfolding load_lines
-  load_made a r = by (near a)
-    where
-      by : (n : Option Based) → P (load_by n a r)
-      by (Some n) = made.word (Lw r n.base n.offset)
-      by None = words_made (Lui r (pos (upper_bits a))) (Lw r r (lower_bits a))
+  load_made = trees.load_made P P made.none (λ a h. h) (λ i plain. made.word i) made.after
 
   store_made : (a q : ℕ) → P (store_lines a q)
   unfolding store_lines

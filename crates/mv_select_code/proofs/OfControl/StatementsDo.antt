@@ -273,7 +273,8 @@ module _ {M : Type 0} (access : Access M) (s : Site) (setting : ir.Setting) (fra
           → Goal-is (statement setting frame (stm.If t (map Mean a) (map Mean b)) bound)
       go None None ex ey p =
           same (λ x. spend (8 + 3 * nodes t) (cond (is_taken false (V t x)) (B x) (A x))) (λ x. ap (spend (8 + 3 * nodes t)) (keep (eqb (V t x) 0) (A x) (B x)))
-          (either_gets access s setting frame fit machine ok place end budget far bar label spare (length bound) pc stop around way t (one.lines around (label + 1) (jump_to way.after)) (other.lines around (label + 1 + one.labels) way) A B fine p
+          (either_gets access s setting frame fit machine ok place end budget far bar label spare (length bound) pc stop around way t
+          (one.lines around (label + 1) (jump_to way.after)) (other.lines around (label + 1 + one.labels) way) A B fine p
           (λ mid next q. da bar spare (label + 1) (omega (arith, le)) around (jump_to way.after) mid next bound under q (λ e. absurd cc))
           (λ mid q. db bar spare (label + 1 + one.labels) (omega (arith, le)) around way mid stop bound under q falls))
       go (Some l) None ex ey p = to_first l ex p

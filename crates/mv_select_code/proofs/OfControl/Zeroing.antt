@@ -75,14 +75,22 @@ module _ {M : Type 0} (access : Access M) (s : Site) (setting : ir.Setting) (fra
           let small = fit.addresses (Element (array.Local a) n) lt in
           let other : reg regs first ≡ reg regs second → ⊥ = λ q. apart (s.register 2) at n size lt below (omega (arith, small)) (sym f.next ∙ q ∙ f.stop) in
           let holds : branch_holds 1 (reg regs first) (reg regs second) ≡ true = ap not (ne_eqb (reg regs first) (reg regs second) other) in
-          let runs = subst (λ b. BranchRuns (limited access s) machine.text.word m b test stop (place label) regs) holds (line_does access s machine ok place end budget far l.world test stop regs m i (Branch 1 first second label) here.stands here h) in
+          let runs = subst (λ b. BranchRuns (limited access s) machine.text.word m b test stop (place label) regs) holds
+          (line_does access s machine ok place end budget far l.world test stop regs m i (Branch 1 first second label) here.stands here h) in
           let t = taken access s machine ok place end budget far l.world test stop (place label) regs m i runs h in
           let c = clear_done access s setting frame fit a l n regs m lt f in
           let begun = stands_at access s machine ok place end budget far l.world (place label) start regs m t.time at_start t.stands in
           let w = leads_walk access s machine ok place end budget far clear_lines 2 l.world start test regs m Past c.0 c.1 t.time body c.2 begun in
           let r = turns left (n + 1) c.0 c.1 w.time (omega (arith, e)) c.3 w.stands in
           let late = t.late in let soon = t.soon in let later = w.late in let sooner = w.soon in
-          record { regs = r.regs; memory = r.memory; reaches = reaches_more access s machine ok place end budget far l.world stop r.regs r.memory w.time i (4 * left + 1) (4 * suc left + 1) (omega (arith, late, later)) (omega (arith, soon, sooner)) r.reaches; all = r.all }
+          record {
+            regs = r.regs;
+            memory = r.memory;
+            reaches =
+                reaches_more access s machine ok place end budget far l.world stop r.regs r.memory w.time i (4 * left + 1) (4 * suc left + 1)
+                (omega (arith, late, later)) (omega (arith, soon, sooner)) r.reaches;
+            all = r.all;
+          }
 
   pub zero_stands : (label a spare k pc next : ℕ) (around : List Enclosing) (bound : Bound) → P (zero_lines label (s.array_at a) (s.array_size a)) pc next
       → Does access s machine place end budget far spare k around pc next (statement setting frame (stm.Zero a) bound)

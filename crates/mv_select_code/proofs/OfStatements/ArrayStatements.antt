@@ -125,7 +125,8 @@ module _ {M : Type 0} (access : Access M) (s : Site) (setting : ir.Setting) (fra
   failed a q k ks l regs m z index le = inl (not_less_is (reg z.after q) (reg z.after (limit a)) (omega (arith, index, z.holds, le)), omega arith, refl, (refl, refl))
 
   -- one below the number goes on
-  passed : (a : Array) (q k n : ℕ) (ks : List Line) (l : State) (regs : List ℕ) (m : M) (regs' : List ℕ) (m' : M) (z : IsSized a l regs m) → reg z.after q ≡ k → k < size_of s a → L ks n z.after m Past regs' m' → L (branch a q ∷ ks) (n + 1) z.after m Past regs' m'
+  passed : (a : Array) (q k n : ℕ) (ks : List Line) (l : State) (regs : List ℕ) (m : M) (regs' : List ℕ) (m' : M) (z : IsSized a l regs m) → reg z.after q ≡ k
+      → k < size_of s a → L ks n z.after m Past regs' m' → L (branch a q ∷ ks) (n + 1) z.after m Past regs' m'
   passed a q k n ks l regs m regs' m' z index lt h = inr (less_is (reg z.after q) (reg z.after (limit a)) (omega (arith, index, z.holds, lt)), n, omega arith, h)
 
   -- ---- an index that isn't below the length
@@ -389,7 +390,9 @@ module _ {M : Type 0} (access : Access M) (s : Site) (setting : ir.Setting) (fra
       stored below b value holds shown =
           let many : V i l < length (elements a l) = omega (arith, below, f.sizes a) in
           let p = element_placed access s setting frame fit a q (V i l) l b m below holds shown in
-          let kept : reg p.after w ≡ V v l = p.beside w (operand_beside s.seats fit.seats v second first (inr (omega arith, omega arith)) (inl (omega arith))) (operand_beside s.seats fit.seats v second third (inr (omega arith, omega arith)) (inl (omega arith)))
+          let kept : reg p.after w ≡ V v l =
+          p.beside w (operand_beside s.seats fit.seats v second first (inr (omega arith, omega arith)) (inl (omega arith)))
+          (operand_beside s.seats fit.seats v second third (inr (omega arith, omega arith)) (inl (omega arith)))
           ∙ value in
           let cell = Element (plain a) (V i l) in
           let g = cell_written access s setting frame fit first w (element_offset (home_of s a)) cell (V v l) l (written (V i l)) p.after m p.to kept y.below (plain_own s a (V i l) may) (plain_there s a (V i l) below)

@@ -139,7 +139,9 @@ module _ {M : Type 0} (access : Access M) (s : Site) (setting : ir.Setting) (fra
       let x = operand_first access s setting frame fit first a l regs m at_first fa h in
       let y = operand_within access s setting frame fit beside b l x.after m (inr (omega arith, omega arith)) fb x.shown in
       let d = is_taken sense (binary o (V a l) (V b l)) in
-      let outside : (p < beside) ⊎ (beside + 4 ≤ p) = ⊎_elim (λ (k : p < beside). inl k) (λ (k : 32 ≤ p). absurd (omega (arith, operand_below s.seats fit.seats a first (omega arith)))) (operand_outside s.seats fit.seats a first 32 (inr (omega arith, omega arith))) in
+      let outside : (p < beside) ⊎ (beside + 4 ≤ p) =
+      ⊎_elim (λ (k : p < beside). inl k) (λ (k : 32 ≤ p). absurd (omega (arith, operand_below s.seats fit.seats a first (omega arith))))
+      (operand_outside s.seats fit.seats a first 32 (inr (omega arith, omega arith))) in
       let left : reg y.after p ≡ V a l = y.changes.others p outside ∙ x.holds in
       let holds : branch_holds f (reg y.after p) (reg y.after q) ≡ d = ap (λ z. branch_holds f z (reg y.after q)) left ∙ ap (branch_holds f (V a l)) y.holds ∙ c in (
         y.after,
@@ -214,7 +216,8 @@ module _ {M : Type 0} (access : Access M) (s : Site) (setting : ir.Setting) (fra
           let parts = fine_binary o a b fine in
           let low = fine.shallow in
           at_value (compared_or s.seats (Some funct3) a b first label []) (2 * nodes a + (2 * nodes b + 2)) (2 * nodes t + 2) regs m (is_taken sense (binary o (V a l) (V b l))) (is_taken sense (V t l)) label l
-          (ap (is_taken sense) (sym (value_is (tree.Binary o a b) l))) (omega (arith, nodes_roll (tree.Binary o a b))) (compared_done funct3 o a b parts.0 parts.1 (omega (arith, low, depth_roll (tree.Binary o a b))) sense label l regs m f c)
+          (ap (is_taken sense) (sym (value_is (tree.Binary o a b) l))) (omega (arith, nodes_roll (tree.Binary o a b)))
+          (compared_done funct3 o a b parts.0 parts.1 (omega (arith, low, depth_roll (tree.Binary o a b))) sense label l regs m f c)
   layer _ h fine sense label l regs m f word w = w
 
   pub branch_done : (sense : Bool) (label : ℕ) (v : Tree) → Fine v → (l : State) (regs : List ℕ) (m : M) → Shows s access l regs m

@@ -111,7 +111,9 @@ module _ {M : Type 0} (access : Access M) (s : Site) (setting : ir.Setting) (fra
           let after = put mid first mix in
           let c2 = changes_put 28 32 third up scaled change.are (omega arith) (omega arith) (free_above third (omega arith) (omega arith)) (upper_below at) in
           let c3 = changes_put 28 32 first mix mid c2.are (omega arith) (omega arith) free (add_below (4 * k) up) in
-          let adds = add_sets (limited access s) m first first third mid (4 * k) up mix (put_other scaled third first up (omega arith) (λ e. omega arith) ∙ holds) (put_same scaled third up (omega arith) (omega (arith, change.are.count))) refl in
+          let adds = add_sets (limited access s) m first first third mid (4 * k) up mix
+          (put_other scaled third first up (omega arith) (λ e. omega arith) ∙ holds)
+          (put_same scaled third up (omega arith) (omega (arith, change.are.count))) refl in
           record {
             after = after;
             runs = (scaled, scales, (mid, lui_sets (limited access s) m third (pos (upper_bits at)) scaled up refl, (after, adds, refl)));
@@ -142,7 +144,8 @@ module _ {M : Type 0} (access : Access M) (s : Site) (setting : ir.Setting) (fra
         shown = frame_scratch s access fit.left fit.seats 28 32 l regs r2 m (inr (omega arith, omega arith)) (changes_both 28 32 regs r1 r2 c1 c2) f;
       }
 
-  pub element_placed : (a : Array) (q k : ℕ) (l : State) (regs : List ℕ) (m : M) → k < size_of s a → reg regs q ≡ k → Shows s access l regs m → IsPlaced (element_lines (home_of s a) q) (element_offset (home_of s a)) (address s (Element (plain a) k)) l regs m
+  pub element_placed : (a : Array) (q k : ℕ) (l : State) (regs : List ℕ) (m : M) → k < size_of s a → reg regs q ≡ k → Shows s access l regs m
+      → IsPlaced (element_lines (home_of s a) q) (element_offset (home_of s a)) (address s (Element (plain a) k)) l regs m
   element_placed (array.Global g) q k l regs m lt index f = data_placed (s.seats.place g) q k l regs m (fit.addresses (Element (array.Global g) k) lt) index f
   element_placed (array.Local a) q k l regs m lt index f = frame_placed a q k l regs m (fit.addresses (Element (array.Local a) k) lt) index f
   element_placed (array.SureGlobal g n) q k l regs m lt index f = data_placed (s.seats.place g) q k l regs m (fit.addresses (Element (array.Global g) k) lt) index f

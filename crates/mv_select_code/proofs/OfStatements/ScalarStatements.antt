@@ -89,7 +89,8 @@ module _ {M : Type 0} (access : Access M) (s : Site) (setting : ir.Setting) (fra
       let low = fine.shallow in
       let n = depth v in
       let part = scratch_part first (first + 4) first (first + n) (omega arith) (omega arith) at_first in
-      let g = trees_leave _ (limited access s) m (view_of s setting frame l) (named_held access s setting frame fit l regs m f) v d first regs (fine.named l f.count) f.are (temps_held access s setting frame fit l regs m f) part free.above free.below
+      let g = trees_leave _ (limited access s) m (view_of s setting frame l) (named_held access s setting frame fit l regs m f) v d first regs
+      (fine.named l f.count) f.are (temps_held access s setting frame fit l regs m f) part free.above free.below
       free.global free.thread in
       let ls = tree_into s.seats v d first in
       record {

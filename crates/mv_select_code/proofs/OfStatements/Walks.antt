@@ -53,7 +53,8 @@ module _ {M : Type 0} (access : Access M) (s : Site) where
   leads_next i ls n regs m mid memory exit regs' m' h k = (n, omega arith, mid, memory, h, k)
 
   -- a store of a word
-  pub sw_moves : (rs1 rs2 : ℕ) (imm : ℤ) (regs : List ℕ) (m m' : M) (a v : ℕ) → add (reg regs rs1) (word_of imm) ≡ a → reg regs rs2 ≡ v → access.store m a 4 v ≡ Some m' → (pc : ℕ) → execute access (Sw rs1 rs2 imm) regs pc m ≡ Goes regs (add pc 4) m'
+  pub sw_moves : (rs1 rs2 : ℕ) (imm : ℤ) (regs : List ℕ) (m m' : M) (a v : ℕ) → add (reg regs rs1) (word_of imm) ≡ a → reg regs rs2 ≡ v → access.store m a 4 v ≡ Some m'
+      → (pc : ℕ) → execute access (Sw rs1 rs2 imm) regs pc m ≡ Goes regs (add pc 4) m'
   unfolding execute stores
   sw_moves rs1 rs2 imm regs m m' a v e f h pc =
       ap (λ a. stored regs pc (access.store m a 4 (reg regs rs2))) e ∙ ap (λ v. stored regs pc (access.store m a 4 v)) f ∙ ap (stored regs pc) h

@@ -99,7 +99,43 @@ literal_narrow k a = ap literal (sym (rolls-Narrow k a)) ∙ literal_roll (tree.
 pub temps_narrow : (k : Kind) (a : Tree) → temps_of (tr.Narrow k a) ≡ temps_of a
 temps_narrow k a = ap temps_of (sym (rolls-Narrow k a)) ∙ temps_roll (tree.Narrow k a)
 
-pub ruleset trees = (into_number, own_number, literal_number, depth_number, temps_number, into_temp, own_temp, literal_temp, depth_temp, temps_temp, into_global, own_global, literal_global, depth_global, temps_global, into_function, own_function, literal_function, depth_function, temps_function, into_unary, own_unary, literal_unary, depth_unary, temps_unary, into_binary, own_binary, literal_binary, depth_binary, temps_binary, into_narrow, own_narrow, literal_narrow, depth_narrow, temps_narrow)
+pub ruleset trees = (
+  into_number,
+  own_number,
+  literal_number,
+  depth_number,
+  temps_number,
+  into_temp,
+  own_temp,
+  literal_temp,
+  depth_temp,
+  temps_temp,
+  into_global,
+  own_global,
+  literal_global,
+  depth_global,
+  temps_global,
+  into_function,
+  own_function,
+  literal_function,
+  depth_function,
+  temps_function,
+  into_unary,
+  own_unary,
+  literal_unary,
+  depth_unary,
+  temps_unary,
+  into_binary,
+  own_binary,
+  literal_binary,
+  depth_binary,
+  temps_binary,
+  into_narrow,
+  own_narrow,
+  literal_narrow,
+  depth_narrow,
+  temps_narrow,
+)
 
 pub unary_0 : (d s : ℕ) → unary_lines 0 d s ≡ one (Sub d 0 s)
 unfolding unary_lines
@@ -335,7 +371,22 @@ with_immediate_other (suc (suc (suc (suc (suc (suc (suc (suc (suc (suc (suc zero
 with_immediate_other (suc (suc (suc (suc (suc (suc (suc (suc (suc (suc (suc (suc zero)))))))))))) d s i p0 p1 p2 p3 p4 p5 p6 p7 p8 p9 p10 p11 p12 = absurd (p12 refl)
 with_immediate_other (suc (suc (suc (suc (suc (suc (suc (suc (suc (suc (suc (suc (suc o))))))))))))) d s i p0 p1 p2 p3 p4 p5 p6 p7 p8 p9 p10 p11 p12 = refl
 
-pub ruleset immediate_operators = (with_immediate_0, with_immediate_1, with_immediate_2, with_immediate_3, with_immediate_4, with_immediate_5, with_immediate_6, with_immediate_7, with_immediate_8, with_immediate_9, with_immediate_10, with_immediate_11, with_immediate_12, with_immediate_other)
+pub ruleset immediate_operators = (
+  with_immediate_0,
+  with_immediate_1,
+  with_immediate_2,
+  with_immediate_3,
+  with_immediate_4,
+  with_immediate_5,
+  with_immediate_6,
+  with_immediate_7,
+  with_immediate_8,
+  with_immediate_9,
+  with_immediate_10,
+  with_immediate_11,
+  with_immediate_12,
+  with_immediate_other,
+)
 
 -- ---- lines put one behind the other
 

@@ -48,7 +48,8 @@ next_seat t zero h e = rw temp_register_zero (record { low = omega arith; high =
 next_seat t (suc u) h e = rw (temp_register_above (suc u) (omega arith)) (record {
   low = omega arith;
   high = omega arith;
-  number = sym (ap (λ b. cond b 8 (cond (ltb (17 + suc u) 18) (17 + suc u - 10) (17 + suc u - 9))) (ne_eqb (17 + suc u) 9 (λ e. omega (arith, e))) ∙ ap (λ b. cond b (17 + suc u - 10) (17 + suc u - 9)) (le-ltb (17 + suc u) 18 (omega arith)) ∙ omega (arith, e));
+  number = sym (ap (λ b. cond b 8 (cond (ltb (17 + suc u) 18) (17 + suc u - 10) (17 + suc u - 9))) (ne_eqb (17 + suc u) 9 (λ e. omega (arith, e)))
+      ∙ ap (λ b. cond b (17 + suc u - 10) (17 + suc u - 9)) (le-ltb (17 + suc u) 18 (omega arith)) ∙ omega (arith, e));
 })
 
 keeping_seat : (k : Keeping) (t q : ℕ) → register_of k t ≡ Some q → IsSeat k t q

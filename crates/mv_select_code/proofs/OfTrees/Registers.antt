@@ -77,10 +77,6 @@ changes_put lo hi r v regs h l u f b = record {
   others = λ n o. put_other regs r n v f.above (⊎_elim (λ (x : n < lo) (e : n ≡ r). omega arith) (λ (x : hi ≤ n) (e : n ≡ r). omega arith) o);
 }
 
--- a register below those that change holds what it did
-pub held_below : (lo hi r x : ℕ) (a b : List ℕ) → Changes lo hi a b → r < lo → reg a r ≡ x → reg b r ≡ x
-held_below lo hi r x a b h l e = h.others r (inl l) ∙ e
-
 -- what a register holds is a word
 pub held_word : (r x : ℕ) (regs : List ℕ) → AreRegisters regs → reg regs r ≡ x → x < 2 ^ 32
 held_word r x regs h e = subst (λ z. z < 2 ^ 32) e (h.words r)

@@ -133,7 +133,8 @@ module _
       where
         by_right : F b → (right : Option ℤ) → Z (operator_lines right o d (operand_register seats a r) (operand_lines seats b (r + 1)) (operand_register seats b (r + 1)))
         by_right has None =
-            after (operand_lines seats b (r + 1)) (binary_lines o d (operand_register seats a r) (operand_register seats b (r + 1))) (operand b h.1 has (r + 1)) (binary_made o d (operand_register seats a r) (operand_register seats b (r + 1)))
+            after (operand_lines seats b (r + 1)) (binary_lines o d (operand_register seats a r) (operand_register seats b (r + 1)))
+            (operand b h.1 has (r + 1)) (binary_made o d (operand_register seats a r) (operand_register seats b (r + 1)))
         by_right has (Some i) = immediate_made o d (operand_register seats a r) i
     layer (tree.Narrow k a) h f d r = by_kind (keeps_words k)
       where

@@ -123,7 +123,9 @@ module _ {M : Type 0} (access : Access M) (m : M) (v : View) where
     own_layer_holds (tree.Narrow c a) h k = own_narrow c (own_register v.seats a) (view_value v a) (keeps_words c) refl (h k)
 
     own_holds : (t : Tree) → Own t
-    own_holds = tree_ind Own (λ x h k. subst (λ o. OwnHolds regs o (view_value v (roll-Tree x))) (sym (own_roll v.seats x)) (subst (OwnHolds regs (own_layer v.seats (map-Tree Tree (Option ℕ) (own_register v.seats) x))) (sym (value_of x)) (own_layer_holds x h (named_of x k))))
+    own_holds = tree_ind Own (λ x h k. subst (λ o. OwnHolds regs o (view_value v (roll-Tree x))) (sym (own_roll v.seats x))
+        (subst (OwnHolds regs (own_layer v.seats (map-Tree Tree (Option ℕ) (own_register v.seats) x))) (sym (value_of x))
+        (own_layer_holds x h (named_of x k))))
 
   -- ---- a tree that is a number
 
@@ -145,7 +147,8 @@ module _ {M : Type 0} (access : Access M) (m : M) (v : View) where
   Literal t = is_in_view v t ≡ true → IsNumber (literal t) (view_value v t)
 
   literal_holds : (t : Tree) → Literal t
-  literal_holds = tree_ind Literal (λ x h k. subst (λ n. IsNumber n (view_value v (roll-Tree x))) (sym (literal_roll x)) (subst (IsNumber (literal_layer (map-Tree Tree (Option ℕ) literal x))) (sym (value_of x)) (written_layer x (named_of x k))))
+  literal_holds = tree_ind Literal (λ x h k. subst (λ n. IsNumber n (view_value v (roll-Tree x))) (sym (literal_roll x))
+      (subst (IsNumber (literal_layer (map-Tree Tree (Option ℕ) literal x))) (sym (value_of x)) (written_layer x (named_of x k))))
 
   -- ---- trees
 
@@ -207,7 +210,9 @@ module _ {M : Type 0} (access : Access M) (m : M) (v : View) where
             (only r (r + suc (max (depth a) (depth b))) d (binary o w n) (immediate_lines o d x i) regs
             (immediate_gives access m v.entry d (d + 1) d x o w n i regs are (alone d free) (held_word x w regs are left) is.1 e left))
 
-        by_right : (right : Option ℤ) → immediate_of o b ≡ right → Second a b d r regs (operator_lines right o d (operand_register v.seats a r) (operand_lines v.seats b (r + 1)) (operand_register v.seats b (r + 1))) (binary o w (view_value v b))
+        by_right : (right : Option ℤ) → immediate_of o b ≡ right
+            → Second a b d r regs (operator_lines right o d (operand_register v.seats a r) (operand_lines v.seats b (r + 1))
+            (operand_register v.seats b (r + 1))) (binary o w (view_value v b))
         by_right None e =
             let nb = depth b in
             let n = max (depth a) nb in

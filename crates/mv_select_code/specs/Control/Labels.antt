@@ -16,7 +16,7 @@ use Rattle.mv_ir.specs.declared.stm.Stm.{Stm}
 use Rattle.mv_ir.specs.declared.stm.Stm.TheOpen.{Stm-F}
 use Rattle.mv_ir.specs.declared.stm.Stm.TheOpen as stm
 use Rattle.mv_ir.specs.declared.stm.Stm.TheFolds.{fold-Stm}
-use Rattle.mv_ir.specs.Measures.{joined, statements}
+use Rattle.mv_ir.specs.Measures.{joined, callee_read, statements}
 use Rattle.mv_select_code.specs.Statements.StatementCode.{trap_label}
 use Rattle.mv_select_code.specs.declared.control.enclosing.Enclosing.{Enclosing}
 use Rattle.mv_select_code.specs.declared.control.enclosing.Way.{Way}
@@ -72,17 +72,11 @@ functions code = joined (map stm_functions code)
 
 -- ---- the pointer switches that code calls through, by their globals
 
-abbrev pub callee_pointers : Callee → List ℕ
-callee_pointers (callee.Direct f) = []
-callee_pointers (callee.Through t) = []
-callee_pointers (callee.Switched g) = g ∷ []
-callee_pointers callee.Expanded = []
-
 abbrev pub pointers_layer : Stm-F (List ℕ) → List ℕ
 pointers_layer (stm.If t a b) = joined a ++ joined b
 pointers_layer (stm.Loop b) = joined b
 pointers_layer (stm.Block b) = joined b
-pointers_layer (stm.Call r f args) = callee_pointers f
+pointers_layer (stm.Call r f args) = callee_read f
 pointers_layer _ = []
 
 unfoldable pub stm_pointers : Stm → List ℕ
@@ -111,7 +105,7 @@ Names P (Point a) = P check_label
 -- calls through pointer switches where it makes one
 pub record CallsName (P : ℕ → Type 0) (calls : CallLines) : Type 0 where
   pub call : (r : Option ℕ) (f : Callee) (args : List Tree) → All P (callee_functions f ++ functions_of_all args) → All (λ g. P (call_label g)) (callee_functions f) →
-      All (λ g. P check_label) (callee_pointers f) → All (Names P) (calls.call r f args)
+      All (λ g. P check_label) (callee_read f) → All (Names P) (calls.call r f args)
   pub known : (r : Option ℕ) (k : Known) (args : List Tree) → All P (functions_of_all args) → All (Names P) (calls.known r k args)
 
 -- each of so many labels from a first one on stands once in some lines, and no other label does

@@ -92,6 +92,7 @@ pub fn push_into(
     requires temps { temps_of tree.now ≤ 507 }
     ensures { OnOk result (code.new ≡ code.old ++ tree_into (seats_at places.entry.rooms.now places.entry.keeping places.entry.pins.now) tree.now rd register) }
 {
+    // An arm for each form of tree.
     match tree {
         Tree::Number(n) => push_pinned(code, places, *n, rd),
         Tree::Temp(t) => push_one(code, read_temp(places, *t, rd)),

@@ -17,7 +17,7 @@ use Rattle.mv_expand.specs.Placed.{placed_tree, given_from, result_into, placed_
 use Rattle.mv_expand.specs.Expanding.{Expands, test_unless}
 use Rattle.mv_expand.proofs.Rolls.{placed_stm_roll}
 use Rattle.mv_expand.proofs.Structure.{IsClosed, expanded_is}
-use Rattle.mv_variants.proofs.OfBound.Measures.{Measure, all_append}
+use Rattle.mv_variants.proofs.OfBound.Measures.{Measure, all_append, Counts as SameCounts, equal}
 use Rattle.mv_variants.proofs.OfBound.TidiedMeasures.{CountsCalls, idle, choice_is}
 
 -- a call of a function that has a short body counts nothing
@@ -85,12 +85,8 @@ module _ {layer : Stm-F ℕ → ℕ} {m : Stm → ℕ} (of : Measure layer m) (a
   all code = total (map m code)
 
   -- the second counts no more, and as much where calls of functions with short bodies count nothing
-  record Counts (xs ys : List Stm) : Type 0 where
-    less : all ys ≤ all xs
-    same : ShortsCountNothing layer shorts → all xs ≤ all ys
-
-  equal : (xs ys : List Stm) → all ys ≡ all xs → Counts xs ys
-  equal xs ys e = record { less = omega (arith, e); same = λ f. omega (arith, e) }
+  abbrev Counts : List Stm → List Stm → Type 0
+  Counts xs ys = SameCounts of (ShortsCountNothing layer shorts) xs ys
 
   test_nothing : (tested : Bool) → all (test_unless tested) ≡ 0
   test_nothing true = refl
@@ -107,7 +103,7 @@ module _ {layer : Stm-F ℕ → ℕ} {m : Stm → ℕ} (of : Measure layer m) (a
 
   closed : (base : ℕ) → IsClosed shorts base Counts
   closed base = record {
-    itself = λ xs. equal xs xs refl;
+    itself = λ xs. equal of xs xs refl;
     both = λ xs xs' ys ys' h k.
         let before = all_append of xs ys in
         let after = all_append of xs' ys' in

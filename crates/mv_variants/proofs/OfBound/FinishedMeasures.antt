@@ -6,9 +6,10 @@ use Rattle.mv_ir.specs.declared.stm.Stm.TheOpen as stm
 use Rattle.mv_ir.specs.declared.body.Body.{Body}
 use Rattle.mv_ir.specs.Measures.{total, tree_nodes}
 use Rattle.mv_ir.specs.Rolled.{number}
+use Rattle.mv_ir.specs.Meaning.{unpromised}
 use Rattle.mv_arms.specs.Armed.{IsArmed}
 use Rattle.mv_arms.proofs.Measures.{Counting, arms_no_more, arms_same}
-use Rattle.mv_ranges.specs.Plain.{plain, plain_code}
+use Rattle.mv_ranges.specs.Plain.{plain_code}
 use Rattle.mv_ranges.proofs.Same.{Blind, same_of_all, same_nodes}
 use Rattle.mv_variants.specs.Bound.Shorts.{IsCleaned, IsFinished}
 use Rattle.mv_variants.proofs.OfBound.Measures.{Measure}
@@ -28,7 +29,7 @@ module _ {layer : Stm-F ℕ → ℕ} {m : Stm → ℕ} (of : Measure layer m) wh
   -- ---- promises count nothing
 
   blind : Blind ℕ layer m
-  blind = record { roll = of.roll; check = λ a i. of.check (plain a) a i i; read = λ t a i. of.read t t (plain a) a i i; write = λ a i v. of.write (plain a) a i i v v }
+  blind = record { roll = of.roll; check = λ a i. of.check (unpromised a) a i i; read = λ t a i. of.read t t (unpromised a) a i i; write = λ a i v. of.write (unpromised a) a i i v v }
 
   marked_same : (code result : List Stm) → plain_code result ≡ plain_code code → all result ≡ all code
   marked_same code result e = ap total (same_of_all ℕ layer m blind code result e)

@@ -152,7 +152,8 @@ module _ (F : ℕ → Type 0) (K : Known → Type 0) (C : ℕ → Type 0) (close
   layer (stm.Set t v) h p = one (stm.Set t (simple_tree v)) (tree_kept v p)
   layer (stm.SetGlobal g v) h p = one (stm.SetGlobal g (simple_tree v)) (tree_kept v p)
   layer (stm.Divide t o a b) h p =
-      division_names (constant (simple_tree a)) (constant (simple_tree b)) t o (simple_tree a) (simple_tree b) (constant_names (simple_tree a) (tree_kept a p.0)) (constant_names (simple_tree b) (tree_kept b p.1)) (tree_kept a p.0) (tree_kept b p.1)
+      division_names (constant (simple_tree a)) (constant (simple_tree b)) t o (simple_tree a) (simple_tree b)
+      (constant_names (simple_tree a) (tree_kept a p.0)) (constant_names (simple_tree b) (tree_kept b p.1)) (tree_kept a p.0) (tree_kept b p.1)
   layer (stm.Check r i) h p = one (stm.Check r (simple_tree i)) (tree_kept i p)
   layer (stm.Read t r i) h p = one (stm.Read t r (simple_tree i)) (tree_kept i p)
   layer (stm.Write r i v) h p = one (stm.Write r (simple_tree i) (simple_tree v)) (tree_kept i p.0, tree_kept v p.1)

@@ -113,6 +113,17 @@ module _ {layer : Stm-F ℕ → ℕ} {m : Stm → ℕ} (of : Measure layer m) wh
   pub block_same : (a b : List ℕ) → total a ≡ total b → layer (stm.Block a) ≡ layer (stm.Block b)
   block_same a b h = omega (arith, of.block a b (omega (arith, h)), of.block b a (omega (arith, h)))
 
+  -- the second counts no more, and as much where something holds
+  pub record Counts (P : Type 0) (xs ys : List Stm) : Type 0 where
+    pub less : all ys ≤ all xs
+    pub same : P → all xs ≤ all ys
+
+  pub equal : {P : Type 0} (xs ys : List Stm) → all ys ≡ all xs → Counts P xs ys
+  equal xs ys e = record { less = omega (arith, e); same = λ f. omega (arith, e) }
+
+  pub single : {P : Type 0} (x y : Stm-F Stm) → own y ≡ own x → Counts P (alone x) (alone y)
+  single x y e = equal (alone x) (alone y) (let same = of.roll x in let result = of.roll y in omega (arith, same, result, e))
+
   -- ---- one statement for another
 
   module _ (f : Stm → Stm) where
@@ -254,9 +265,6 @@ module _ {layer : Stm-F ℕ → ℕ} {m : Stm → ℕ} (of : Measure layer m) wh
   choice_no_more (Some zero) t u a b c d h k = omega (arith, of.branch u u c d, k)
   choice_no_more (Some (suc n)) t u a b c d h k = omega (arith, of.branch u u c d, h)
 
-  abbrev NoMore : List Stm → List Stm → Type 0
-  NoMore xs ys = all ys ≤ all xs
-
   leave_no_more : (end : Option ℕ) → all (leave (from_outside end)) ≤ all (leave end)
   leave_no_more None = omega arith
   leave_no_more (Some zero) = omega arith
@@ -266,10 +274,10 @@ module _ {layer : Stm-F ℕ → ℕ} {m : Stm → ℕ} (of : Measure layer m) wh
   end_no_more : (front : List Stm) (end : Option ℕ) → all (front ++ leave (from_outside end)) ≤ all (front ++ leave end)
   end_no_more front end = omega (arith, all_append front (leave end), all_append front (leave (from_outside end)), leave_no_more end)
 
-  contents : (x : Stm-F Stm) (front : List Stm) (end : Option ℕ) → all (front ++ leave end) ≤ own x → NoMore (alone x) (front ++ leave (from_outside end))
+  contents : (x : Stm-F Stm) (front : List Stm) (end : Option ℕ) → all (front ++ leave end) ≤ own x → CountsNoMore (alone x) (front ++ leave (from_outside end))
   contents x front end h = omega (arith, h, of.roll x, end_no_more front end)
 
-  open_no_more : Opens NoMore
+  open_no_more : Opens CountsNoMore
   open_no_more = record {
     same = λ xs. omega arith;
     block = λ front end e. contents (stm.Block (front ++ leave end)) front end (of.blocked (map m (front ++ leave end)));
@@ -286,9 +294,9 @@ module _ {layer : Stm-F ℕ → ℕ} {m : Stm → ℕ} (of : Measure layer m) wh
   layer_simple (stm.Zero l) h = lone (stm.Zero l) _ refl
   layer_simple (stm.If t a b) h = choice_no_more (constant (simple_tree t)) (simple_tree t) t (simple_code a) (simple_code b) (map m a) (map m b) (code_simple a h.0) (code_simple b h.1)
   layer_simple (stm.Loop b) h =
-      omega (arith, looped_is NoMore open_no_more (simple_code b), less (stm.Loop (simple_code b)) (own (stm.Loop b)) (of.loop _ _ (code_simple b h)))
+      omega (arith, looped_is CountsNoMore open_no_more (simple_code b), less (stm.Loop (simple_code b)) (own (stm.Loop b)) (of.loop _ _ (code_simple b h)))
   layer_simple (stm.Block b) h =
-      omega (arith, blocked_is NoMore open_no_more (simple_code b), less (stm.Block (simple_code b)) (own (stm.Block b)) (of.block _ _ (code_simple b h)))
+      omega (arith, blocked_is CountsNoMore open_no_more (simple_code b), less (stm.Block (simple_code b)) (own (stm.Block b)) (of.block _ _ (code_simple b h)))
   layer_simple (stm.Break n) h = lone (stm.Break n) _ refl
   layer_simple (stm.Back n) h = lone (stm.Back n) _ refl
   layer_simple (stm.Call r f args) h = lone (stm.Call r (simple_callee f) (map simple_tree args)) _ (of.call _ _ _ _ _ _ (simple_goal f))
@@ -299,11 +307,11 @@ module _ {layer : Stm-F ℕ → ℕ} {m : Stm → ℕ} (of : Measure layer m) wh
   simple_no_more code = code_simple code (stms_ind (Many simple_stm) (stm_ind (Many simple_stm) (λ x h. to_many simple_stm x _ (simple_stm_roll x) (layer_simple x h))) code)
 
   -- a statement in place of two, of which the second counts as much
-  second : (x y z : Stm-F Stm) → own z ≡ own y → NoMore (roll-Stm x ∷ roll-Stm y ∷ []) (roll-Stm z ∷ [])
+  second : (x y z : Stm-F Stm) → own z ≡ own y → CountsNoMore (roll-Stm x ∷ roll-Stm y ∷ []) (roll-Stm z ∷ [])
   second x y z h = omega (arith, of.roll z, of.roll y, h)
 
   short_no_more : (temps : ℕ) (code : List Stm) → all (shortened temps code) ≤ all code
-  short_no_more temps = shortened_is temps NoMore (record {
+  short_no_more temps = shortened_is temps CountsNoMore (record {
     same = λ xs. omega arith;
     both = λ xs ys zs h k. omega (arith, h, k);
     behind = λ s xs ys h. omega (arith, h);

@@ -5,6 +5,7 @@ use Rattle.mv_ast.specs.declared.program.Known.{Known}
 use Rattle.mv_ir.specs.declared.stm.Stm.{Stm}
 use Rattle.mv_ir.proofs.Induction.{Each}
 use Rattle.mv_ir.specs.Measures.{joined}
+use Rattle.mv_plain.proofs.PlainNumbers.{unary_word}
 use Rattle.mv_select_code.specs.Control.Labels.{named_layer, stm_functions, functions}
 use Rattle.mv_select_code.proofs.OfControl.TreeNames.{AnyNumber, each_any, named_roll}
 use Rattle.mv_select.specs.Bodies.SelectedBodies.{AreWords, HasWords, IsOrder, constants_of_all, constants, knowns_layer, stm_knowns, knowns}
@@ -22,7 +23,7 @@ use Rattle.mv_carry.specs.Carrying.{outermost, carried_code}
 use Rattle.mv_fold.specs.Needed.{needed_code}
 use Rattle.mv_fold.specs.Folded.{simple_body}
 use Rattle.mv_variants.specs.Bound.Names.{NamesNoMore, BindingNamesNoMore, CarryingNamesNoMore, TidyingNamesNoMore, FoldingNamesNoMore}
-use Rattle.mv_variants.proofs.OfBound.Words.{unary_word, binary_word, narrow_word, divide_word}
+use Rattle.mv_variants.proofs.OfBound.Words.{binary_word, narrow_word, divide_word}
 use Rattle.mv_select.proofs.OfBodies.Naming.{CodeNames, code_functions, code_knowns, code_constants, code_of}
 use Rattle.mv_variants.proofs.OfBound.BoundNames.{bound_names}
 use Rattle.mv_variants.proofs.OfBound.FoldedNames.{IsClosed, folded_names}
@@ -95,7 +96,8 @@ binding_names ps words code =
 
 pub carrying_names : CarryingNamesNoMore
 carrying_names temps code =
-    no_more code (carried_code temps outermost (Knowing []) code).code (carried_names (Contains (functions code)) (Contains (knowns code)) AnyNumber anything_closed temps code) (carried_names AnyNumber IsOrder IsWord words_closed temps code)
+    no_more code (carried_code temps outermost (Knowing []) code).code
+    (carried_names (Contains (functions code)) (Contains (knowns code)) AnyNumber anything_closed temps code) (carried_names AnyNumber IsOrder IsWord words_closed temps code)
 
 pub tidying_names : TidyingNamesNoMore
 tidying_names temps code tidied k =
@@ -133,7 +135,8 @@ marking_names code marked e = record {
 pub folding_names : FoldingNamesNoMore
 folding_names temps code folded (needed, is, e) =
     subst (NamesNoMore code) (sym e)
-    (no_more code (needed_code needed (simple_body temps code)) (folded_names (Contains (functions code)) (Contains (knowns code)) AnyNumber anything_closed needed temps code) (folded_names AnyNumber IsOrder IsWord words_closed needed temps code))
+    (no_more code (needed_code needed (simple_body temps code))
+    (folded_names (Contains (functions code)) (Contains (knowns code)) AnyNumber anything_closed needed temps code) (folded_names AnyNumber IsOrder IsWord words_closed needed temps code))
 
 pub renaming_names : (c : ℕ → ℕ) (code : List Stm) → NamesNoMore code (renamed_code c code)
 renaming_names c code = no_more code (renamed_code c code) (renamed_names (Contains (functions code)) (Contains (knowns code)) AnyNumber c code) (renamed_names AnyNumber IsOrder IsWord c code)

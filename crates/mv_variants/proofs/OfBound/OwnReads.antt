@@ -30,5 +30,7 @@ read_no_switch p g reads vs many shorts result m =
     let as_many : length vs ≡ length body.switches = many ∙ sym (length-map g.switches (switch_global p)) in
     record {
       scalars = All-weaker (λ k. found (zip body.switches vs) k ≡ None) (λ k. is_among k body.switches ≡ false) (λ k. not_among body.switches vs k as_many) (scalars_read result.code) variant.free;
-      arrays = All-weaker (Contains (arrays_read result.code)) (λ k. is_among k body.switches ≡ false) (λ k c. All-contains (λ i. is_among i body.switches ≡ false) (arrays_read body.code) k reads.switches (reads_array shorts (zip body.switches vs) body result m k c)) (arrays_read result.code) (All-contains_itself (arrays_read result.code));
+      arrays = All-weaker (Contains (arrays_read result.code)) (λ k. is_among k body.switches ≡ false)
+          (λ k c. All-contains (λ i. is_among i body.switches ≡ false) (arrays_read body.code) k reads.switches
+          (reads_array shorts (zip body.switches vs) body result m k c)) (arrays_read result.code) (All-contains_itself (arrays_read result.code));
     }

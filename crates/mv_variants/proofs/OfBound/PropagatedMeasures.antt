@@ -4,14 +4,12 @@ use Rattle.mv_ir.specs.declared.stm.Callee.{Callee}
 use Rattle.mv_ir.specs.declared.stm.Stm.{Stm}
 use Rattle.mv_ir.specs.declared.stm.Stm.TheOpen.{Stm-F}
 use Rattle.mv_ir.specs.declared.stm.Stm.TheOpen as stm
-use Rattle.mv_ir.specs.declared.stm.Stm.TheFolds.{map-Stm}
 use Rattle.mv_ir.specs.Measures.{total}
 use Rattle.mv_ir.specs.Rolled.{temp}
-use Rattle.mv_fold.specs.Simple.{alone}
 use Rattle.mv_propagate.specs.declared.facts.Fact.{Fact}
 use Rattle.mv_propagate.specs.Propagating.{ReadsCallee, same_callee, through, Propagated}
 use Rattle.mv_propagate.proofs.Structure.{none_low, IsClosed, propagated_is}
-use Rattle.mv_variants.proofs.OfBound.Measures.{SameGoal, Measure, all_append}
+use Rattle.mv_variants.proofs.OfBound.Measures.{SameGoal, Measure, all_append, Counts as SameCounts, equal, single}
 use Rattle.mv_variants.proofs.OfBound.TidiedMeasures.{CountsCalls, same_goal, choice_is}
 
 reads_goal : (facts : List Fact) (f g : Callee) → ReadsCallee facts f g → SameGoal g f
@@ -22,39 +20,29 @@ module _ {layer : Stm-F ℕ → ℕ} {m : Stm → ℕ} (of : Measure layer m) wh
   abbrev all : List Stm → ℕ
   all code = total (map m code)
 
-  abbrev own : Stm-F Stm → ℕ
-  own x = layer (map-Stm Stm ℕ m x)
-
   -- the second counts no more, and as much where nothing but calls counts
-  record Counts (xs ys : List Stm) : Type 0 where
-    less : all ys ≤ all xs
-    same : CountsCalls layer → all xs ≤ all ys
-
-  equal : (xs ys : List Stm) → all ys ≡ all xs → Counts xs ys
-  equal xs ys e = record { less = omega (arith, e); same = λ f. omega (arith, e) }
-
-  lone : (x y : Stm-F Stm) → own y ≡ own x → Counts (alone x) (alone y)
-  lone x y e = equal (alone x) (alone y) (let same = of.roll x in let result = of.roll y in omega (arith, same, result, e))
+  abbrev Counts : List Stm → List Stm → Type 0
+  Counts xs ys = SameCounts of (CountsCalls layer) xs ys
 
   closed : (temps : ℕ) → IsClosed temps Counts
   closed temps = record {
-    none = equal [] [] refl;
+    none = equal of [] [] refl;
     both = λ xs xs' ys ys' h k.
         let before = all_append of xs ys in
         let after = all_append of xs' ys' in
         record { less = omega (arith, before, after, h.less, k.less); same = λ f. omega (arith, before, after, h.same f, k.same f) };
-    same = λ s. equal (s ∷ []) (s ∷ []) refl;
-    set = λ facts t v w low h. lone (stm.Set t v) (stm.Set t w) (of.set _ _ _ _);
-    store = λ facts g v w low h. lone (stm.SetGlobal g v) (stm.SetGlobal g w) (of.store _ _ _ _);
-    divide = λ facts t o a a' b b' low h k. lone (stm.Divide t o a b) (stm.Divide t o a' b') (of.divide _ _ _ _ _ _ _ _);
-    check = λ facts r i j low h. lone (stm.Check r i) (stm.Check r j) (of.check _ _ _ _);
-    read = λ facts t r i j low h. lone (stm.Read t r i) (stm.Read t r j) (of.read _ _ _ _ _ _);
+    same = λ s. equal of (s ∷ []) (s ∷ []) refl;
+    set = λ facts t v w low h. single of (stm.Set t v) (stm.Set t w) (of.set _ _ _ _);
+    store = λ facts g v w low h. single of (stm.SetGlobal g v) (stm.SetGlobal g w) (of.store _ _ _ _);
+    divide = λ facts t o a a' b b' low h k. single of (stm.Divide t o a b) (stm.Divide t o a' b') (of.divide _ _ _ _ _ _ _ _);
+    check = λ facts r i j low h. single of (stm.Check r i) (stm.Check r j) (of.check _ _ _ _);
+    read = λ facts t r i j low h. single of (stm.Read t r i) (stm.Read t r j) (of.read _ _ _ _ _ _);
     fetched = λ facts t u r i l low h lt lt'.
         let before = of.roll (stm.Read t r i) in
         let after = of.roll (stm.Set t (temp u)) in
         let fewer = of.fetched t t (temp u) r i in
         record { less = omega (arith, before, after, fewer); same = λ f. (let none = f.others (stm.Read t r i) refl in omega (arith, before, after, none)) };
-    write = λ facts r i j v w low h k. lone (stm.Write r i v) (stm.Write r j w) (of.write _ _ _ _ _ _);
+    write = λ facts r i j v w low h k. single of (stm.Write r i v) (stm.Write r j w) (of.write _ _ _ _ _ _);
     branch = λ facts t u a a' b b' low h ha hb.
         let before = choice_is of t a b in
         let after = choice_is of u a' b' in
@@ -73,9 +61,9 @@ module _ {layer : Stm-F ℕ → ℕ} {m : Stm → ℕ} (of : Measure layer m) wh
           less = omega (arith, before, after, of.block (map m b') (map m b) h.less);
           same = λ f. omega (arith, before, after, of.block (map m b) (map m b') (h.same f));
         };
-    call = λ facts r f g xs ys low hf h. lone (stm.Call r f xs) (stm.Call r g ys) (of.call _ _ _ _ _ _ (reads_goal facts f g hf));
-    known = λ facts r k xs ys low h. lone (stm.Known r k xs) (stm.Known r k ys) (of.known _ _ _ _ _);
-    return = λ facts v w low h. lone (stm.Return v) (stm.Return w) (of.return _ _);
+    call = λ facts r f g xs ys low hf h. single of (stm.Call r f xs) (stm.Call r g ys) (of.call _ _ _ _ _ _ (reads_goal facts f g hf));
+    known = λ facts r k xs ys low h. single of (stm.Known r k xs) (stm.Known r k ys) (of.known _ _ _ _ _);
+    return = λ facts v w low h. single of (stm.Return v) (stm.Return w) (of.return _ _);
   }
 
   pub propagated_no_more : (temps : ℕ) (code result : List Stm) (last : List Fact) → Propagated temps [] code result last → all result ≤ all code

@@ -46,7 +46,8 @@ functions_led p g kind image tables has words rows variants all merged shorts kn
     let domains = domains_in p kind g in
     let same = values_are p kind g.switches in
     let kinds_same : kinds_of image row ≡ kinds (domains_in p kind g) = ap (map (kind_of image)) switches.named ∙ kinds_are p kind image g.switches switches.kinds in
-    let led = combinations_led image tables has (domains_in p kind g) rows variants (words_are p kind g.switches words) (subst (λ ds. AreAllCombinations ds (all_values rows)) (sym same) all) merged n row at there kinds_same shorts (lower_function p g) made in
+    let led = combinations_led image tables has (domains_in p kind g) rows variants (words_are p kind g.switches words)
+    (subst (λ ds. AreAllCombinations ds (all_values rows)) (sym same) all) merged n row at there kinds_same shorts (lower_function p g) made in
     record {
       shorts = shorts;
       known = known;

@@ -3,6 +3,7 @@ use Rattle.std.proofs.Common.{arith, ◌≡◌, ℕ, zero, suc, ◌+◌, ◌<◌
 use Rattle.std.specs.Prelude.{slice_get, Some, sum_by}
 use Rattle.std.proofs.Math.Seq.{drop-append_seam}
 use Rattle.std.proofs.lemmas.List.Sums.{sum_by-cons}
+use Rattle.mv_ast.proofs.Common.{get_drop}
 use Rattle.mv_ir.specs.Measures.{joined}
 use Rattle.mv_descriptors.specs.declared.rows.FunctionRow.{FunctionRow}
 use Rattle.mv_descriptors.specs.declared.rows.VariantRow.{VariantRow}
@@ -56,9 +57,11 @@ variants_sum [] (r ∷ rows) n h = absurd h
 variants_sum (t ∷ tables) [] n h = absurd h
 variants_sum (t ∷ tables) (r ∷ rows) zero h = refl
 variants_sum (t ∷ tables) (r ∷ rows) (suc n) h =
-    sum_by-cons (λ (row : FunctionRow). row.variants) r (take n rows) ∙ ap (λ k. k + sum_by (λ (row : FunctionRow). row.variants) (take n rows)) h.0 ∙ ap (λ k. length t + k) (variants_sum tables rows n h.1) ∙ sym (length-append t (joined (take n tables)))
+    sum_by-cons (λ (row : FunctionRow). row.variants) r (take n rows) ∙ ap (λ k. k + sum_by (λ (row : FunctionRow). row.variants) (take n rows)) h.0
+    ∙ ap (λ k. length t + k) (variants_sum tables rows n h.1) ∙ sym (length-append t (joined (take n tables)))
 
-variants_there : (tables : List (List (List GuardRow))) (rows : List FunctionRow) (n : ℕ) (t : List (List GuardRow)) (row : FunctionRow) → HaveVariants tables rows → slice_get tables n ≡ Some t → slice_get rows n ≡ Some row → row.variants ≡ length t
+variants_there : (tables : List (List (List GuardRow))) (rows : List FunctionRow) (n : ℕ) (t : List (List GuardRow)) (row : FunctionRow) →
+    HaveVariants tables rows → slice_get tables n ≡ Some t → slice_get rows n ≡ Some row → row.variants ≡ length t
 variants_there [] rows n t row h e f = absurd cc
 variants_there (s ∷ tables) [] n t row h e f = absurd h
 variants_there (s ∷ tables) (r ∷ rows) zero t row h e f =
@@ -75,11 +78,6 @@ groups_many variants = by 0 (length variants.bodies)
     by i (suc k) = ap suc (by (suc i) k)
 
 -- ---- items
-
-get_drop : {A : Type 0} (n j : ℕ) (xs : List A) → slice_get (drop n xs) j ≡ slice_get xs (n + j)
-get_drop zero j xs = ap (slice_get xs) (omega arith)
-get_drop (suc n) j [] = refl
-get_drop (suc n) j (x ∷ xs) = get_drop n j xs ∙ let e : suc (n + j) ≡ suc n + j = omega arith in ap (slice_get (x ∷ xs)) e
 
 get_take : {A : Type 0} (n j : ℕ) (xs : List A) → j < n → slice_get (take n xs) j ≡ slice_get xs j
 get_take zero j xs lt = absurd (omega arith)
@@ -127,7 +125,8 @@ module _ (image : Fields) (tables : List (List (List GuardRow))) (has : HasTable
   within_all : first + length table ≤ length image.variants
   within_all = omega (arith, first_is, counted_length (before ++ (table ++ behind)) image.variants counted_from, length-append before (table ++ behind), length-append table behind)
 
-  fitting_is : (vs : List ℕ) (row : FunctionRow) → slice_get image.functions n ≡ Some row → fitting_variant image n vs ≡ fitting (holds (kinds_of image row) vs) first (take row.variants (drop first image.variants)) (joined table ++ joined behind)
+  fitting_is : (vs : List ℕ) (row : FunctionRow) → slice_get image.functions n ≡ Some row → fitting_variant image n vs ≡ fitting
+      (holds (kinds_of image row) vs) first (take row.variants (drop first image.variants)) (joined table ++ joined behind)
   unfolding fitting_variant
   fitting_is vs row e = rw e (ap (fitting (holds (kinds_of image row) vs) first (take row.variants (drop first image.variants))) guards_here)
 
@@ -137,7 +136,9 @@ variants_led image tables has domains rows variants all merged n row at there sa
     let many : row.variants ≡ length variants.bodies = count ∙ groups_many variants in
     record {
       leads = λ vs values.
-          let is = fitting_is image tables has n (groups variants) at vs row there ∙ ap (λ ks. fitting (holds ks vs) (variants_before image n) (take row.variants (drop (variants_before image n) image.variants)) (joined (groups variants) ++ joined (behind image tables has n (groups variants) at))) same in
+          let is = fitting_is image tables has n (groups variants) at vs row there ∙ ap (λ ks. fitting (holds ks vs) (variants_before image n)
+          (take row.variants (drop (variants_before image n) image.variants)) (joined (groups variants) ++ joined
+          (behind image tables has n (groups variants) at))) same in
           subst (Leads domains rows variants.bodies (variants_before image n) vs) (sym is)
           (is_led domains rows variants all merged (take row.variants (drop (variants_before image n) image.variants)) (counted_here image tables has n (groups variants) at row.variants count)
           (variants_before image n) (joined (behind image tables has n (groups variants) at)) vs values);

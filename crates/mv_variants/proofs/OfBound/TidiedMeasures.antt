@@ -21,7 +21,7 @@ use Rattle.mv_tidy.specs.Choosing as chosen
 use Rattle.mv_tidy.specs.Choosing.{Attached, layer_jumps_only, is_jump, is_nothing, taken, sides}
 use Rattle.mv_tidy.specs.Tidied.{IsTidiedCode}
 use Rattle.mv_tidy.proofs.Structure.{IsCongruence, IsClosed, joined_is, chosen_is}
-use Rattle.mv_variants.proofs.OfBound.Measures.{SameGoal, Measure, all_append, branch_same, loop_same, block_same}
+use Rattle.mv_variants.proofs.OfBound.Measures.{SameGoal, Measure, all_append, branch_same, loop_same, block_same, Counts as SameCounts, equal}
 
 -- Where there is no call, nothing counts, nor does what is left of one that is expanded; and a block counts what is in it.
 pub record CountsCalls (layer : Stm-F ℕ → ℕ) : Type 0 where
@@ -54,15 +54,8 @@ module _ {layer : Stm-F ℕ → ℕ} {m : Stm → ℕ} (of : Measure layer m) wh
   fork = layer (stm.If (number 0) [] [])
 
   -- the second counts no more, and as much where nothing but calls counts
-  record Counts (xs ys : List Stm) : Type 0 where
-    less : all ys ≤ all xs
-    same : CountsCalls layer → all xs ≤ all ys
-
-  equal : (xs ys : List Stm) → all ys ≡ all xs → Counts xs ys
-  equal xs ys e = record { less = omega (arith, e); same = λ f. omega (arith, e) }
-
-  lone : (x y : Stm-F Stm) → own y ≡ own x → Counts (alone x) (alone y)
-  lone x y e = equal (alone x) (alone y) (let same = of.roll x in let result = of.roll y in omega (arith, same, result, e))
+  abbrev Counts : List Stm → List Stm → Type 0
+  Counts xs ys = SameCounts of (CountsCalls layer) xs ys
 
   nothing_set : CountsCalls layer → one ≡ 0
   nothing_set f = f.others (stm.Set 0 (number 0)) refl
@@ -166,7 +159,7 @@ module _ {layer : Stm-F ℕ → ℕ} {m : Stm → ℕ} (of : Measure layer m) wh
 
   counts_congruence : IsCongruence Counts
   counts_congruence = record {
-    itself = λ xs. equal xs xs refl;
+    itself = λ xs. equal of xs xs refl;
     both = λ xs xs' ys ys' h k.
         let before = all_append of xs ys in
         let after = all_append of xs' ys' in
@@ -282,11 +275,11 @@ module _ {layer : Stm-F ℕ → ℕ} {m : Stm → ℕ} (of : Measure layer m) wh
       by false = omega arith
 
   attached_counts : (gone : ℕ → Type 0) (first : List Stm) (k : Tree) (x y z : List Stm) → Attached gone first k x y z → Counts (first ++ choose k x y ∷ []) z
-  attached_counts gone first k x y z (chosen.apart f c a b) = equal (f ++ choose c a b ∷ []) (f ++ choose c a b ∷ []) refl
+  attached_counts gone first k x y z (chosen.apart f c a b) = equal of (f ++ choose c a b ∷ []) (f ++ choose c a b ∷ []) refl
   attached_counts gone first k x y z (chosen.denied f c a b w h) = turned_counts f (unary operator.logical_not c) c a b w (attached_counts gone f c b a w h)
   attached_counts gone first k x y z (chosen.unequal f c a b w h) =
       counts_congruence.trans (f ++ choose (binary operator.not_equal c (number 0)) a b ∷ []) (f ++ choose c a b ∷ []) w
-      (equal (f ++ choose (binary operator.not_equal c (number 0)) a b ∷ []) (f ++ choose c a b ∷ [])
+      (equal of (f ++ choose (binary operator.not_equal c (number 0)) a b ∷ []) (f ++ choose c a b ∷ [])
       (behind_choice f c a b ∙ sym (behind_choice f (binary operator.not_equal c (number 0)) a b))) (attached_counts gone f c a b w h)
   attached_counts gone first k x y z (chosen.equal f c a b w h) = turned_counts f (binary operator.equal c (number 0)) c a b w (attached_counts gone f c b a w h)
   attached_counts gone first k x y z (chosen.pushed turned f a b c e t n v w u g short h) =
@@ -298,7 +291,7 @@ module _ {layer : Stm-F ℕ → ℕ} {m : Stm → ℕ} (of : Measure layer m) wh
 
   tidied_counts : (temps : ℕ) (code result : List Stm) → IsTidiedCode temps code result → Counts code result
   tidied_counts temps code result k =
-      let trees = equal code k.plain (plain_counts code k.plain k.is_plain) in
+      let trees = equal of code k.plain (plain_counts code k.plain k.is_plain) in
       let joined = joined_is temps Counts counts_closed k.plain k.joined k.is_joined in
       let choices = chosen_is temps Counts counts_congruence attached_counts _ k.joined result k.is_chosen in
       counts_congruence.trans code k.plain result trees (counts_congruence.trans k.plain k.joined result joined choices)

@@ -1,20 +1,13 @@
 -- What operators compute of words is a word.
-use Rattle.std.proofs.Common.{arith, ℕ, zero, suc, ◌-◌, ◌%◌, ◌^◌, ◌<◌, Bool, true, false, cond, eqb, ltb, not, pos, ◌-ℤ◌}
+use Rattle.std.proofs.Common.{arith, ℕ, zero, suc, ◌^◌, ◌<◌, Bool, true, false, cond, eqb, not}
 use Rattle.std.proofs.lemmas.Nat.{or_lt, xor_lt, mod_below}
 use Rattle.mv_num.specs.declared.kind.Kind.{Kind}
 use Rattle.mv_num.specs.declared.kind.Kind.TheVariants as kind
-use Rattle.mv_num.specs.Words.{word_of, rem_u, lt_s, lt_u, narrow, sign_extend}
-use Rattle.mv_ir.specs.Trees.{unary, binary, divide}
+use Rattle.mv_num.specs.Words.{rem_u, lt_s, lt_u, narrow}
+use Rattle.mv_ir.specs.Trees.{binary, divide}
+use Rattle.mv_plain.proofs.PlainNumbers.{byte_word, half_word}
 use Rattle.mv_select_code.proofs.OfTrees.Words.{add_below, sub_below, mul_below, and_below, shl_below, shr_s_below, shr_u_below, flag_below}
 use Rattle.mv_select_code.proofs.OfStatements.Divisions.{div_s_below, rem_s_below, div_u_below}
-use Rattle.mv_num.proofs.Numbers.{word_small}
-
-pub unary_word : (o a : ℕ) → unary o a < 2 ^ 32
-unfolding unary
-unary_word zero a = sub_below 0 a
-unary_word (suc zero) a = sub_below (2 ^ 32 - 1) a
-unary_word (suc (suc zero)) a = flag_below (eqb a 0)
-unary_word (suc (suc (suc o))) a = omega arith
 
 pub binary_word : (o a b : ℕ) → a < 2 ^ 32 → b < 2 ^ 32 → binary o a b < 2 ^ 32
 unfolding binary
@@ -48,14 +41,6 @@ divide_word (suc (suc (suc (suc o)))) a d p q = omega arith
 choose_word : (b : Bool) (n m : ℕ) → n < 2 ^ 32 → m < 2 ^ 32 → cond b n m < 2 ^ 32
 choose_word true n m p q = p
 choose_word false n m p q = q
-
-byte_word : (a : ℕ) → sign_extend 8 a < 2 ^ 32
-unfolding sign_extend
-byte_word a = choose_word (ltb (a % 2 ^ 8) (2 ^ (8 - 1))) (a % 2 ^ 8) (word_of (pos (a % 2 ^ 8) -ℤ pos (2 ^ 8))) (omega arith) (word_small (pos (a % 2 ^ 8) -ℤ pos (2 ^ 8)))
-
-half_word : (a : ℕ) → sign_extend 16 a < 2 ^ 32
-unfolding sign_extend
-half_word a = choose_word (ltb (a % 2 ^ 16) (2 ^ (16 - 1))) (a % 2 ^ 16) (word_of (pos (a % 2 ^ 16) -ℤ pos (2 ^ 16))) (omega arith) (word_small (pos (a % 2 ^ 16) -ℤ pos (2 ^ 16)))
 
 pub narrow_word : (k : Kind) (a : ℕ) → a < 2 ^ 32 → narrow k a < 2 ^ 32
 unfolding narrow

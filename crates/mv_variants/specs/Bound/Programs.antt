@@ -3,10 +3,10 @@ use Rattle.std.specs.Prelude.{ℕ, List}
 use Rattle.mv_ast.specs.declared.program.Program.{Program}
 use Rattle.mv_ast.specs.declared.program.Function.{Function}
 use Rattle.mv_ir.specs.declared.body.Body.{Body}
-use Rattle.mv_ir.specs.Shorts.{Shorts, KeepsBodyWith, KeepsUnderWith}
+use Rattle.mv_ir.specs.Shorts.{Shorts}
 use Rattle.mv_lower_spec.specs.Functions.{lower_function}
 use Rattle.mv_variants.specs.Bound.Shorts.{AreShortsOf}
-use Rattle.mv_variants.specs.Bound.Meant.{IsMadeUnder, IsVariantOf}
+use Rattle.mv_variants.specs.Bound.Meant.{IsMadeUnder}
 use Rattle.mv_variants.specs.Bound.General.{IsGeneral}
 
 -- the body of which a function's own code is made
@@ -20,20 +20,3 @@ pub record IsMadeOf (p : Program) (g : Function) (ps : List (ℕ × ℕ)) (b : B
   pub shorts : Shorts
   pub known : AreShortsOf p shorts
   pub made : IsMadeUnder shorts ps (lower_function p g) b
-
--- and what such a body means and has
-pub record IsVariantFor (p : Program) (g : Function) (ps : List (ℕ × ℕ)) (b : Body) : Type 0 where
-  pub shorts : Shorts
-  pub known : AreShortsOf p shorts
-  pub variant : IsVariantOf shorts ps (lower_function p g) b
-
--- A body means what another means, in each frame or where the switches are read as these values, over the functions of the program.
-pub record KeepsBodyIn (p : Program) (body b : Body) : Type 0 where
-  pub shorts : Shorts
-  pub known : AreShortsOf p shorts
-  pub keeps : KeepsBodyWith shorts body b
-
-pub record KeepsUnderIn (p : Program) (ps : List (ℕ × ℕ)) (body b : Body) : Type 0 where
-  pub shorts : Shorts
-  pub known : AreShortsOf p shorts
-  pub keeps : KeepsUnderWith shorts ps body b

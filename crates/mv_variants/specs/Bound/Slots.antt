@@ -124,4 +124,4 @@ AtMost f (g ∷ gs) (n ∷ ns) = (n ≤ f g) × AtMost f gs ns
 abbrev pub SlotsArePatchable : Type 0
 SlotsArePatchable =
     (p : Program) (own variants : List ℕ) → AtMost (counts.call_sites p) p.functions own → AtMost (λ g. counts.call_sites p g * counts.assignments p g) (attributed_functions p) variants →
-    length (attributed_functions p) + 2 * (sum own + sum variants) ≤ counts.patchable p
+    length (attributed_functions p) + 2 * (sum own + sum variants) ≤ counts.patchable_places p

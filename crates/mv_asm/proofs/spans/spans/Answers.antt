@@ -13,11 +13,23 @@ use Rattle.mv_asm.proofs.spans.spans.Goals.{then-is_branch+then-sizing-index-eq1
 
 pub offset_bounds-offsets-target : goal.offset_bounds-offsets-target
 offset_bounds-offsets-target c =
-    omega (arith, target_at c.args.lines.now c.args.targets.now c.requires.targets c.loop-index.index c.loop-index-test.true, target-le c.args.lines.now (line_at c.args.lines.now c.loop-index.index), c.requires.sizes.one_each, c.requires.offsets.one_more)
+    omega (
+      arith,
+      target_at c.args.lines.now c.args.targets.now c.requires.targets c.loop-index.index c.loop-index-test.true,
+      target-le c.args.lines.now (line_at c.args.lines.now c.loop-index.index),
+      c.requires.sizes.one_each,
+      c.requires.offsets.one_more,
+    )
 
 pub bounds-offsets-target : goal.bounds-offsets-target
 bounds-offsets-target c =
-    omega (arith, target_at c.args.lines.now c.args.targets.now c.requires.targets c.loop-index.index c.loop-index-test.true, target-le c.args.lines.now (line_at c.args.lines.now c.loop-index.index), c.requires.sizes.one_each, c.requires.offsets.one_more)
+    omega (
+      arith,
+      target_at c.args.lines.now c.args.targets.now c.requires.targets c.loop-index.index c.loop-index-test.true,
+      target-le c.args.lines.now (line_at c.args.lines.now c.loop-index.index),
+      c.requires.sizes.one_each,
+      c.requires.offsets.one_more,
+    )
 
 pub span_of-requires-clause-at : goal.span_of-requires-clause-at
 span_of-requires-clause-at c =

@@ -1,9 +1,7 @@
-use Rattle.std.proofs.Common.{All, subst}
+use Rattle.std.proofs.Common.{subst}
 use Rattle.std.specs.Prelude.{List}
 use Rattle.std.proofs.lemmas.Result.{err_from_is_err_and}
-use Rattle.mv_ir.specs.declared.body.Body.{Body}
 use Rattle.mv_lower.proofs.Small.{small_enough}
-use Rattle.mv_select.specs.Bodies.SelectedBodies.{HasWords}
 use Rattle.mv_isa.specs.declared.labelled.Labelled.{Labelled}
 use Rattle.mv_parts.specs.Fronts.{IsSizeOf}
 use Rattle.mv_build.proofs.Limits.{frame_refused, frames_fit, functions_refused, variants_refused}
@@ -24,7 +22,7 @@ attributed_code-requires-clause-frames c =
 pub returns-clause-ok : goal.returns-clause-ok
 returns-clause-ok c = record {
   codes = record { generics = c.in_ok-generics.ensures; are_tables = c.in_ok-variants.ensures.ok.tables; code = c.in_ok-functions.ensures.ok; variants = c.in_ok-variants.ensures.ok.parts };
-  words = subst (λ (bodies : List Body). All (λ (b : Body). HasWords b.code) bodies) c.as_slice-5.ensures c.have_words.ensures;
+  words = c.in_ok-functions.ensures.words;
   frames = frames_fit c.args.program.now c.in_ok-generics.generics c.in_ok-functions.functions c.in_ok-generics.ensures c.in_ok-functions.ensures.ok;
   within = record {
     size = c.size_of-size.result;

@@ -27,7 +27,9 @@ returns-then-value-most c = λ n h e.
 
 pub loop-byte-preserved : goal.loop-byte-preserved
 loop-byte-preserved c = record {
-  value = ap (λ digit. 10 * c.loop-byte.value + digit) c.from.ensures ∙ value_more c.loop-byte.byte-index c.loop-byte.value c.args.text.now c.loop-byte-test.true (omega (arith, c.if-not-is_ascii_digit.ensures.cases)) c.loop-byte.invariant.value;
+  value = ap (λ digit. 10 * c.loop-byte.value + digit) c.from.ensures
+      ∙ value_more c.loop-byte.byte-index c.loop-byte.value c.args.text.now c.loop-byte-test.true
+      (omega (arith, c.if-not-is_ascii_digit.ensures.cases)) c.loop-byte.invariant.value;
   small = c.if-value-most.false;
   digits = all_digits_more c.loop-byte.byte-index c.args.text.now c.loop-byte-test.true (omega (arith, c.if-not-is_ascii_digit.ensures.cases)) c.loop-byte.invariant.digits;
 }

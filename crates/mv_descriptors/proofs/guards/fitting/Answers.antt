@@ -21,7 +21,11 @@ loop-i-preserved c =
     let next : c.args.first + c.loop-i.i + 1 ≡ c.args.first + (c.loop-i.i + 1) = omega arith in
     record {
       within = omega (arith, c.min-end.ensures);
-      left = c.loop-i.invariant.left ∙ fits_later (holds c.args.kinds.now c.args.values.now) _ _ _ _ _ _ _ c.loop-i-test.true c.loop-i.invariant.within (ends _ _ _ c.min-end.ensures) (sym c.one_holds.ensures ∙ c.if-one_holds.false) ∙ ap (λ (n : ℕ). fitting (holds c.args.kinds.now c.args.values.now) n (drop (c.loop-i.i + 1) c.args.variants.now) (drop c.min-end.result c.args.rows.now)) next;
+      left = c.loop-i.invariant.left
+          ∙ fits_later (holds c.args.kinds.now c.args.values.now) _ _ _ _ _ _ _ c.loop-i-test.true c.loop-i.invariant.within (ends _ _ _ c.min-end.ensures)
+          (sym c.one_holds.ensures ∙ c.if-one_holds.false)
+          ∙ ap (λ (n : ℕ). fitting (holds c.args.kinds.now c.args.values.now) n (drop (c.loop-i.i + 1) c.args.variants.now)
+          (drop c.min-end.result c.args.rows.now)) next;
     }
 
 pub returns : goal.returns

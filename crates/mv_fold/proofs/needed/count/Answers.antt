@@ -10,7 +10,10 @@ loop-read-preserved c =
     let first = greater c.loop-read.count c.row-end.result c.max.result c.max.ensures in
     let second = greatest c.max.result c.row-row.result c.max-count.result c.max-count.ensures in
     record {
-      fits = fits_more c.loop-read.count c.max-count.result c.args.uses.now c.loop-read.read-index (record { user = None; used = 0 }) c.loop-read-test.true c.loop-read.invariant.fits (omega (arith, first.first, second.first)) (omega (arith, first.second, second.first, c.row-end.ensures.value)) (omega (arith, second.second, c.row-row.ensures.value));
+      fits =
+          fits_more c.loop-read.count c.max-count.result c.args.uses.now c.loop-read.read-index
+          (record { user = None; used = 0 }) c.loop-read-test.true c.loop-read.invariant.fits (omega (arith, first.first, second.first))
+          (omega (arith, first.second, second.first, c.row-end.ensures.value)) (omega (arith, second.second, c.row-row.ensures.value));
       small = second.below (2 ^ 33) (first.below (2 ^ 33) c.loop-read.invariant.small c.row-end.ensures.small) c.row-row.ensures.small;
     }
 

@@ -38,7 +38,9 @@ visit-requires-in-loop-next-clause-fits c =
     let u = c.index-in-loop-next.result.now in
     let lt : c.loop-next.next < length c.loop-next.order.items = omega (arith, c.loop-next-test.true, c.len.ensures, c.loop-next.order.ok) in
     let below = reached_below count uses c.loop-next.flags.items c.loop-next.order.items c.loop-next.next u c.loop-next.invariant lt in
-    let read : c.deref-in-loop-next.result.now ≡ read_by (u + 1) uses = c.deref-in-loop-next.ensures.value ∙ ap (λ v. v.items) c.index-in-loop-next-2.ensures ∙ rows.each (u + 1) c.index-in-loop-next-2.result.now (omega (arith, rows.long, below, c.index-in-loop-next.ensures)) in
+    let read : c.deref-in-loop-next.result.now ≡ read_by (u + 1) uses = c.deref-in-loop-next.ensures.value ∙
+    ap (λ v. v.items) c.index-in-loop-next-2.ensures ∙
+    rows.each (u + 1) c.index-in-loop-next-2.result.now (omega (arith, rows.long, below, c.index-in-loop-next.ensures)) in
     let long : length c.deref_mut-in-loop-next.result.now ≡ count = ap length c.deref_mut-in-loop-next.ensures.value ∙ c.loop-next.invariant.long in
     subst (λ l. All (λ t. t < length c.deref_mut-in-loop-next.result.now) l) (sym read) (subst (λ n. All (λ t. t < n) (read_by (u + 1) uses)) (sym long) (read_fits count (u + 1) uses c.count-count.ensures.fits))
 

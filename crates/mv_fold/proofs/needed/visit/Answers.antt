@@ -16,7 +16,8 @@ loop-read-preserved c =
           let e : c.if-not-flags-place.order.items ≡ order ++ x ∷ [] = ap (λ v. v.items) w.order-is ∙ w.in_ok-push.ensures.items in
           subst (λ fl. IsVisited read c.args.flags.now c.args.order.now.items fl c.if-not-flags-place.order.items) (sym w.flags-is)
           (subst (λ o. IsVisited read c.args.flags.now c.args.order.now.items (set flags x true) o) (sym e)
-          (visited_now c.args.row.now i 0 c.loop-read-test.true c.args.flags.now c.args.order.now.items flags order c.loop-read.invariant (omega (arith, c.requires.fits i 0 c.loop-read-test.true, c.loop-read.auto.flags)) w.if-not-flags-place.true))
+          (visited_now c.args.row.now i 0 c.loop-read-test.true c.args.flags.now c.args.order.now.items flags order c.loop-read.invariant
+          (omega (arith, c.requires.fits i 0 c.loop-read-test.true, c.loop-read.auto.flags)) w.if-not-flags-place.true))
       | else-not-flags-place w ↦
           subst (λ fl. IsVisited read c.args.flags.now c.args.order.now.items fl c.if-not-flags-place.order.items) (sym w.flags-is)
           (subst (λ v. IsVisited read c.args.flags.now c.args.order.now.items flags v.items) (sym w.order-is)

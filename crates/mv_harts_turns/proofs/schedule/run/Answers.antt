@@ -22,7 +22,9 @@ loop-time-init g c =
     let schedule = c.args.schedule.now in
     let o = c.args.oracle.now in
     let was : Outside = outside g.I.Source.left g.O.Sink.written g.I.Source.faults g.O.Sink.faults sources.items c.args.sinks.now.items ((goal.FetchOracle-dyn g (o.vtable, o.value)).way o.value) in
-    let fetch : AlwaysFetch image actions (vec_len sources) was schedule = λ i failing. fetches_are image (inputs_of was) _ (right_now c.harts_are_right.ensures image actions (vec_len sources) was (take i schedule) failing c.requires.fitting).1 in
+    let fetch : AlwaysFetch image actions (vec_len sources) was schedule =
+    λ i failing. fetches_are image (inputs_of was) _
+    (right_now c.harts_are_right.ensures image actions (vec_len sources) was (take i schedule) failing c.requires.fitting).1 in
     let count : c.len.result - 1 ≡ vec_len sources - 1 = ap (λ n. n - 1) c.len.ensures in
     let none = ran_none image actions (vec_len sources) was c.in_ok-group.group c.requires.some
     (λ h lt. told_all g.I.Source.left sources.items c.requires.told h (omega (arith, sources.ok.0, lt)))
@@ -42,7 +44,9 @@ index_mut-requires g c =
     let schedule = c.args.schedule.now in
     let o = c.args.oracle.now in
     let was : Outside = outside g.I.Source.left g.O.Sink.written g.I.Source.faults g.O.Sink.faults sources.items c.args.sinks.now.items ((goal.FetchOracle-dyn g (o.vtable, o.value)).way o.value) in
-    let fetch : AlwaysFetch image actions (vec_len sources) was schedule = λ i failing. fetches_are image (inputs_of was) _ (right_now c.harts_are_right.ensures image actions (vec_len sources) was (take i schedule) failing c.requires.fitting).1 in
+    let fetch : AlwaysFetch image actions (vec_len sources) was schedule =
+    λ i failing. fetches_are image (inputs_of was) _
+    (right_now c.harts_are_right.ensures image actions (vec_len sources) was (take i schedule) failing c.requires.fitting).1 in
     let l = c.loop-time in
     let i = l.time in
     let within : i < length schedule = omega (arith, c.loop-time-test.true, c.turns_of-turns.ensures.count) in
@@ -63,7 +67,9 @@ index_mut-requires-in-loop-time g c =
     let schedule = c.args.schedule.now in
     let o = c.args.oracle.now in
     let was : Outside = outside g.I.Source.left g.O.Sink.written g.I.Source.faults g.O.Sink.faults sources.items c.args.sinks.now.items ((goal.FetchOracle-dyn g (o.vtable, o.value)).way o.value) in
-    let fetch : AlwaysFetch image actions (vec_len sources) was schedule = λ i failing. fetches_are image (inputs_of was) _ (right_now c.harts_are_right.ensures image actions (vec_len sources) was (take i schedule) failing c.requires.fitting).1 in
+    let fetch : AlwaysFetch image actions (vec_len sources) was schedule =
+    λ i failing. fetches_are image (inputs_of was) _
+    (right_now c.harts_are_right.ensures image actions (vec_len sources) was (take i schedule) failing c.requires.fitting).1 in
     let l = c.loop-time in
     let i = l.time in
     let within : i < length schedule = omega (arith, c.loop-time-test.true, c.turns_of-turns.ensures.count) in
@@ -84,7 +90,9 @@ turn-requires-clause-there g c =
     let schedule = c.args.schedule.now in
     let o = c.args.oracle.now in
     let was : Outside = outside g.I.Source.left g.O.Sink.written g.I.Source.faults g.O.Sink.faults sources.items c.args.sinks.now.items ((goal.FetchOracle-dyn g (o.vtable, o.value)).way o.value) in
-    let fetch : AlwaysFetch image actions (vec_len sources) was schedule = λ i failing. fetches_are image (inputs_of was) _ (right_now c.harts_are_right.ensures image actions (vec_len sources) was (take i schedule) failing c.requires.fitting).1 in
+    let fetch : AlwaysFetch image actions (vec_len sources) was schedule =
+    λ i failing. fetches_are image (inputs_of was) _
+    (right_now c.harts_are_right.ensures image actions (vec_len sources) was (take i schedule) failing c.requires.fitting).1 in
     let l = c.loop-time in
     let i = l.time in
     let within : i < length schedule = omega (arith, c.loop-time-test.true, c.turns_of-turns.ensures.count) in
@@ -105,7 +113,9 @@ turn-requires-clause-ready g c =
     let schedule = c.args.schedule.now in
     let o = c.args.oracle.now in
     let was : Outside = outside g.I.Source.left g.O.Sink.written g.I.Source.faults g.O.Sink.faults sources.items c.args.sinks.now.items ((goal.FetchOracle-dyn g (o.vtable, o.value)).way o.value) in
-    let fetch : AlwaysFetch image actions (vec_len sources) was schedule = λ i failing. fetches_are image (inputs_of was) _ (right_now c.harts_are_right.ensures image actions (vec_len sources) was (take i schedule) failing c.requires.fitting).1 in
+    let fetch : AlwaysFetch image actions (vec_len sources) was schedule =
+    λ i failing. fetches_are image (inputs_of was) _
+    (right_now c.harts_are_right.ensures image actions (vec_len sources) was (take i schedule) failing c.requires.fitting).1 in
     let l = c.loop-time in
     let i = l.time in
     let within : i < length schedule = omega (arith, c.loop-time-test.true, c.turns_of-turns.ensures.count) in
@@ -129,7 +139,9 @@ go_on-time-requires-clause-within g c =
     let schedule = c.args.schedule.now in
     let o = c.args.oracle.now in
     let was : Outside = outside g.I.Source.left g.O.Sink.written g.I.Source.faults g.O.Sink.faults sources.items c.args.sinks.now.items ((goal.FetchOracle-dyn g (o.vtable, o.value)).way o.value) in
-    let fetch : AlwaysFetch image actions (vec_len sources) was schedule = λ i failing. fetches_are image (inputs_of was) _ (right_now c.harts_are_right.ensures image actions (vec_len sources) was (take i schedule) failing c.requires.fitting).1 in
+    let fetch : AlwaysFetch image actions (vec_len sources) was schedule =
+    λ i failing. fetches_are image (inputs_of was) _
+    (right_now c.harts_are_right.ensures image actions (vec_len sources) was (take i schedule) failing c.requires.fitting).1 in
     let l = c.loop-time in
     let i = l.time in
     let within : i < length schedule = omega (arith, c.loop-time-test.true, c.turns_of-turns.ensures.count) in
@@ -150,7 +162,9 @@ go_on-time-requires-clause-numbered g c =
     let schedule = c.args.schedule.now in
     let o = c.args.oracle.now in
     let was : Outside = outside g.I.Source.left g.O.Sink.written g.I.Source.faults g.O.Sink.faults sources.items c.args.sinks.now.items ((goal.FetchOracle-dyn g (o.vtable, o.value)).way o.value) in
-    let fetch : AlwaysFetch image actions (vec_len sources) was schedule = λ i failing. fetches_are image (inputs_of was) _ (right_now c.harts_are_right.ensures image actions (vec_len sources) was (take i schedule) failing c.requires.fitting).1 in
+    let fetch : AlwaysFetch image actions (vec_len sources) was schedule =
+    λ i failing. fetches_are image (inputs_of was) _
+    (right_now c.harts_are_right.ensures image actions (vec_len sources) was (take i schedule) failing c.requires.fitting).1 in
     let l = c.loop-time in
     let i = l.time in
     let within : i < length schedule = omega (arith, c.loop-time-test.true, c.turns_of-turns.ensures.count) in
@@ -168,7 +182,10 @@ go_on-time-requires-clause-numbered g c =
     let source_at : slice_get l.sources.items h ≡ Some s = slice_get_read l.sources.items (length l.sources.items) h s refl (omega (arith, l.sources.ok.0, l.invariant.sources, below)) c.index_mut.ensures.value in
     let sink_at : slice_get l.sinks.items h ≡ Some k = slice_get_read l.sinks.items (length l.sinks.items) h k refl (omega (arith, l.sinks.ok.0, l.invariant.sinks, c.requires.paired, below)) c.index_mut-in-loop-time.ensures.value in
     let left = sym (ap (option_and_then g.I.Source.left) source_at) ∙ r.told h below in
-    let next = next_of g.I.Source.left g.O.Sink.written g.I.Source.faults g.O.Sink.faults l.sources.items l.sinks.items ((goal.FetchOracle-dyn g (p.vtable, p.value)).way p.value) ((goal.FetchOracle-dyn g (q.vtable, q.value)).way q.value) h s c.turn.new.source k c.turn.new.sink source_at sink_at c.in_ok-turn.ensures.input c.in_ok-turn.ensures.output in
+    let next = next_of g.I.Source.left g.O.Sink.written g.I.Source.faults g.O.Sink.faults l.sources.items l.sinks.items
+    ((goal.FetchOracle-dyn g (p.vtable, p.value)).way p.value)
+    ((goal.FetchOracle-dyn g (q.vtable, q.value)).way q.value) h s c.turn.new.source k c.turn.new.sink source_at sink_at c.in_ok-turn.ensures.input
+    c.in_ok-turn.ensures.output in
     let ran = ran_next image actions (vec_len sources) was is is' schedule i h l.group c.turn.new.self _ r within at next (c.in_ok-turn.ensures.turns image (bytes_of is) hs r.shows (fetch i r.failing) left) in
     numbered_below schedule (vec_len sources) _ (omega (arith, ran.seats, c.turn.new.self.others.ok.0)) c.requires.numbered
 
@@ -180,7 +197,9 @@ go_on-time-requires-clause-executed g c =
     let schedule = c.args.schedule.now in
     let o = c.args.oracle.now in
     let was : Outside = outside g.I.Source.left g.O.Sink.written g.I.Source.faults g.O.Sink.faults sources.items c.args.sinks.now.items ((goal.FetchOracle-dyn g (o.vtable, o.value)).way o.value) in
-    let fetch : AlwaysFetch image actions (vec_len sources) was schedule = λ i failing. fetches_are image (inputs_of was) _ (right_now c.harts_are_right.ensures image actions (vec_len sources) was (take i schedule) failing c.requires.fitting).1 in
+    let fetch : AlwaysFetch image actions (vec_len sources) was schedule =
+    λ i failing. fetches_are image (inputs_of was) _
+    (right_now c.harts_are_right.ensures image actions (vec_len sources) was (take i schedule) failing c.requires.fitting).1 in
     let l = c.loop-time in
     let i = l.time in
     let within : i < length schedule = omega (arith, c.loop-time-test.true, c.turns_of-turns.ensures.count) in
@@ -198,7 +217,10 @@ go_on-time-requires-clause-executed g c =
     let source_at : slice_get l.sources.items h ≡ Some s = slice_get_read l.sources.items (length l.sources.items) h s refl (omega (arith, l.sources.ok.0, l.invariant.sources, below)) c.index_mut.ensures.value in
     let sink_at : slice_get l.sinks.items h ≡ Some k = slice_get_read l.sinks.items (length l.sinks.items) h k refl (omega (arith, l.sinks.ok.0, l.invariant.sinks, c.requires.paired, below)) c.index_mut-in-loop-time.ensures.value in
     let left = sym (ap (option_and_then g.I.Source.left) source_at) ∙ r.told h below in
-    let next = next_of g.I.Source.left g.O.Sink.written g.I.Source.faults g.O.Sink.faults l.sources.items l.sinks.items ((goal.FetchOracle-dyn g (p.vtable, p.value)).way p.value) ((goal.FetchOracle-dyn g (q.vtable, q.value)).way q.value) h s c.turn.new.source k c.turn.new.sink source_at sink_at c.in_ok-turn.ensures.input c.in_ok-turn.ensures.output in
+    let next = next_of g.I.Source.left g.O.Sink.written g.I.Source.faults g.O.Sink.faults l.sources.items l.sinks.items
+    ((goal.FetchOracle-dyn g (p.vtable, p.value)).way p.value)
+    ((goal.FetchOracle-dyn g (q.vtable, q.value)).way q.value) h s c.turn.new.source k c.turn.new.sink source_at sink_at c.in_ok-turn.ensures.input
+    c.in_ok-turn.ensures.output in
     let ran = ran_next image actions (vec_len sources) was is is' schedule i h l.group c.turn.new.self _ r within at next (c.in_ok-turn.ensures.turns image (bytes_of is) hs r.shows (fetch i r.failing) left) in
     ran_executed image actions (vec_len sources) was is' _ c.turn.new.self (i + 1) (let front : length (take (i + 1) schedule) ≡ i + 1 = length-take-le (i + 1) schedule (omega arith) in omega (arith, front)) ran
 
@@ -210,7 +232,9 @@ loop-time-preserved g c =
     let schedule = c.args.schedule.now in
     let o = c.args.oracle.now in
     let was : Outside = outside g.I.Source.left g.O.Sink.written g.I.Source.faults g.O.Sink.faults sources.items c.args.sinks.now.items ((goal.FetchOracle-dyn g (o.vtable, o.value)).way o.value) in
-    let fetch : AlwaysFetch image actions (vec_len sources) was schedule = λ i failing. fetches_are image (inputs_of was) _ (right_now c.harts_are_right.ensures image actions (vec_len sources) was (take i schedule) failing c.requires.fitting).1 in
+    let fetch : AlwaysFetch image actions (vec_len sources) was schedule =
+    λ i failing. fetches_are image (inputs_of was) _
+    (right_now c.harts_are_right.ensures image actions (vec_len sources) was (take i schedule) failing c.requires.fitting).1 in
     let l = c.loop-time in
     let i = l.time in
     let within : i < length schedule = omega (arith, c.loop-time-test.true, c.turns_of-turns.ensures.count) in
@@ -228,7 +252,10 @@ loop-time-preserved g c =
     let source_at : slice_get l.sources.items h ≡ Some s = slice_get_read l.sources.items (length l.sources.items) h s refl (omega (arith, l.sources.ok.0, l.invariant.sources, below)) c.index_mut.ensures.value in
     let sink_at : slice_get l.sinks.items h ≡ Some k = slice_get_read l.sinks.items (length l.sinks.items) h k refl (omega (arith, l.sinks.ok.0, l.invariant.sinks, c.requires.paired, below)) c.index_mut-in-loop-time.ensures.value in
     let left = sym (ap (option_and_then g.I.Source.left) source_at) ∙ r.told h below in
-    let next = next_of g.I.Source.left g.O.Sink.written g.I.Source.faults g.O.Sink.faults l.sources.items l.sinks.items ((goal.FetchOracle-dyn g (p.vtable, p.value)).way p.value) ((goal.FetchOracle-dyn g (q.vtable, q.value)).way q.value) h s c.turn.new.source k c.turn.new.sink source_at sink_at c.in_ok-turn.ensures.input c.in_ok-turn.ensures.output in
+    let next = next_of g.I.Source.left g.O.Sink.written g.I.Source.faults g.O.Sink.faults l.sources.items l.sinks.items
+    ((goal.FetchOracle-dyn g (p.vtable, p.value)).way p.value)
+    ((goal.FetchOracle-dyn g (q.vtable, q.value)).way q.value) h s c.turn.new.source k c.turn.new.sink source_at sink_at c.in_ok-turn.ensures.input
+    c.in_ok-turn.ensures.output in
     let ran = ran_next image actions (vec_len sources) was is is' schedule i h l.group c.turn.new.self _ r within at next (c.in_ok-turn.ensures.turns image (bytes_of is) hs r.shows (fetch i r.failing) left) in
     record {
       within = c.go_on-time.ensures.within;
@@ -245,7 +272,9 @@ returns-in_err-turn g c =
     let schedule = c.args.schedule.now in
     let o = c.args.oracle.now in
     let was : Outside = outside g.I.Source.left g.O.Sink.written g.I.Source.faults g.O.Sink.faults sources.items c.args.sinks.now.items ((goal.FetchOracle-dyn g (o.vtable, o.value)).way o.value) in
-    let fetch : AlwaysFetch image actions (vec_len sources) was schedule = λ i failing. fetches_are image (inputs_of was) _ (right_now c.harts_are_right.ensures image actions (vec_len sources) was (take i schedule) failing c.requires.fitting).1 in
+    let fetch : AlwaysFetch image actions (vec_len sources) was schedule =
+    λ i failing. fetches_are image (inputs_of was) _
+    (right_now c.harts_are_right.ensures image actions (vec_len sources) was (take i schedule) failing c.requires.fitting).1 in
     let l = c.loop-time in
     let i = l.time in
     let within : i < length schedule = omega (arith, c.loop-time-test.true, c.turns_of-turns.ensures.count) in
@@ -263,7 +292,10 @@ returns-in_err-turn g c =
     let source_at : slice_get l.sources.items h ≡ Some s = slice_get_read l.sources.items (length l.sources.items) h s refl (omega (arith, l.sources.ok.0, l.invariant.sources, below)) c.index_mut.ensures.value in
     let sink_at : slice_get l.sinks.items h ≡ Some k = slice_get_read l.sinks.items (length l.sinks.items) h k refl (omega (arith, l.sinks.ok.0, l.invariant.sinks, c.requires.paired, below)) c.index_mut-in-loop-time.ensures.value in
     let left = sym (ap (option_and_then g.I.Source.left) source_at) ∙ r.told h below in
-    let next = next_of g.I.Source.left g.O.Sink.written g.I.Source.faults g.O.Sink.faults l.sources.items l.sinks.items ((goal.FetchOracle-dyn g (p.vtable, p.value)).way p.value) ((goal.FetchOracle-dyn g (q.vtable, q.value)).way q.value) h s c.turn.new.source k c.turn.new.sink source_at sink_at c.in_err-turn.ensures.input c.in_err-turn.ensures.output in
+    let next = next_of g.I.Source.left g.O.Sink.written g.I.Source.faults g.O.Sink.faults l.sources.items l.sinks.items
+    ((goal.FetchOracle-dyn g (p.vtable, p.value)).way p.value)
+    ((goal.FetchOracle-dyn g (q.vtable, q.value)).way q.value) h s c.turn.new.source k c.turn.new.sink source_at sink_at c.in_err-turn.ensures.input
+    c.in_err-turn.ensures.output in
     match_err c.from_residual-in_err-turn.result _ _ _ c.from_residual-in_err-turn.ensures.1
     (λ e. broke_next image actions (vec_len sources) was is is' schedule i h l.group c.turn.new.self _ r within at next (c.in_err-turn.ensures.turns image (bytes_of is) hs r.shows (fetch i r.failing) left))
 

@@ -13,13 +13,22 @@ loop-place-preserved c =
     record {
       count = c.loop-place.invariant.count;
       changed = changed_more (TakesFrom (option_map store_as c.args.store) c.args.from) c.loop-place.place c.args.others.now.items others.items seat c.take_store.new.self
-          (slice_get_read others.items (length others.items) c.loop-place.place seat refl (omega (arith, others.ok.0, c.loop-place.invariant.count, c.len-place-end.ensures, c.loop-place-test.true)) c.index_mut.ensures.value)
-          (λ e. absurd (c.if-place-from.false (omega (arith, e))), λ ne. record { sits = c.in_ok-take_store.ensures.sits; image = c.in_ok-take_store.ensures.image; taken = c.in_ok-take_store.ensures.taken; stop = c.in_ok-take_store.ensures.stop })
+          (slice_get_read others.items (length others.items) c.loop-place.place seat refl (omega (arith, others.ok.0, c.loop-place.invariant.count, c.len-place-end.ensures, c.loop-place-test.true)) c.index_mut.ensures.value) (
+            λ e. absurd (c.if-place-from.false (omega (arith, e))),
+            λ ne. record {
+              sits = c.in_ok-take_store.ensures.sits;
+              image = c.in_ok-take_store.ensures.image;
+              taken = c.in_ok-take_store.ensures.taken;
+              stop = c.in_ok-take_store.ensures.stop;
+            },
+          )
           c.loop-place.invariant.changed;
     }
 
 pub returns : goal.returns
-returns c = shared_all (option_map store_as c.args.store) c.args.from c.loop-place.place c.args.others.now.items c.loop-place.others.items (omega (arith, c.args.others.now.ok.0, c.len-place-end.ensures, c.loop-place-test.false)) c.loop-place.invariant.changed
+returns c =
+    shared_all (option_map store_as c.args.store) c.args.from c.loop-place.place c.args.others.now.items c.loop-place.others.items
+    (omega (arith, c.args.others.now.ok.0, c.len-place-end.ensures, c.loop-place-test.false)) c.loop-place.invariant.changed
 
 pub returns-in_default : goal.returns-in_default
 returns-in_default c =

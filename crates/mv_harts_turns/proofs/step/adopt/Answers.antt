@@ -17,4 +17,7 @@ returns-clause-adopts g c = λ image number bytes o is.
     let k = c.len-last.result - 1 in
     let last = c.index-as_slice-last.result in
     let there : slice_get commits k ≡ Some last = slice_get_read commits (length commits) k last refl (omega (arith, c.len-last.ensures, c.requires.ready.some)) (c.index-as_slice-last.is ∙ ap (λ l. get_or l k last) c.as_slice.ensures) in
-    seat_adopts image commits number bytes c.args.seat.now c.adopt.new.self o k last (omega (arith, c.len-last.ensures, c.requires.ready.some)) there is c.adopt.ensures.image c.adopt.ensures.taken (λ acts. subst (λ (l : Committed). Sits number c.adopt.new.self bytes (adopted o l.all acts)) (sym c.index-as_slice-last.is) (c.adopt.ensures.adopts number bytes o acts is.sits)) c.push.new.self c.in_ok-push.ensures.ok
+    seat_adopts image commits number bytes c.args.seat.now c.adopt.new.self o k last
+    (omega (arith, c.len-last.ensures, c.requires.ready.some)) there is c.adopt.ensures.image c.adopt.ensures.taken
+    (λ acts. subst (λ (l : Committed). Sits number c.adopt.new.self bytes (adopted o l.all acts)) (sym c.index-as_slice-last.is)
+    (c.adopt.ensures.adopts number bytes o acts is.sits)) c.push.new.self c.in_ok-push.ensures.ok

@@ -13,7 +13,8 @@ words_room ws bytes e h = subst (λ (x : List ℕ). words_end x ≤ length x) (s
 words_keep : (ws bytes : List ℕ) → ws ≡ words_of bytes → AllFit (words_of bytes) → AllFit ws
 words_keep ws bytes e h = subst AllFit (sym e) h
 
-names_room : (ws bytes : List ℕ) (n : ℕ) → ws ≡ words_of bytes → n ≡ names ws → AllFit (words_of bytes) → length bytes ≡ 4 * words_end (words_of bytes) + filled (name_bytes (words_of bytes)) → 4 * words_end ws + sum_below (name_length ws) n ≤ length bytes
+names_room : (ws bytes : List ℕ) (n : ℕ) → ws ≡ words_of bytes → n ≡ names ws → AllFit (words_of bytes)
+    → length bytes ≡ 4 * words_end (words_of bytes) + filled (name_bytes (words_of bytes)) → 4 * words_end ws + sum_below (name_length ws) n ≤ length bytes
 names_room ws bytes n e m fit len =
     let s = names_sum (words_of bytes) fit in
     let more = filled_from (name_bytes (words_of bytes)) in
@@ -26,14 +27,43 @@ words_part-requires c =
     let room = words_room _ _ c.requires.words (has_room c.args.bytes.now c.requires.spelled) in
     let n : c.word.result ≡ text_words c.args.words.now = c.word.ensures ∙ ap text_words c.as_slice-slice.ensures in
     let at : c.header_words.result ≡ header_words c.args.words.now = c.header_words.ensures.value ∙ ap header_words c.as_slice-slice.ensures in
-    omega (arith, n, at, room, data_from c.args.words.now, switches_after c.args.words.now, functions_from c.args.words.now, variants_from c.args.words.now, guards_from c.args.words.now, sites_from c.args.words.now, pointers_from c.args.words.now, points_from c.args.words.now, targets_from c.args.words.now, end_from c.args.words.now)
+    omega (
+      arith,
+      n,
+      at,
+      room,
+      data_from c.args.words.now,
+      switches_after c.args.words.now,
+      functions_from c.args.words.now,
+      variants_from c.args.words.now,
+      guards_from c.args.words.now,
+      sites_from c.args.words.now,
+      pointers_from c.args.words.now,
+      points_from c.args.words.now,
+      targets_from c.args.words.now,
+      end_from c.args.words.now,
+    )
 
 pub words_part-requires-2 : goal.words_part-requires-2
 words_part-requires-2 c =
     let room = words_room _ _ c.requires.words (has_room c.args.bytes.now c.requires.spelled) in
     let n : c.word-2.result ≡ data_words c.args.words.now = c.word-2.ensures ∙ ap data_words c.as_slice-slice.ensures in
     let at : c.data_at.result ≡ data_at c.args.words.now = c.data_at.ensures.value ∙ ap data_at c.as_slice-slice.ensures in
-    omega (arith, n, at, room, switches_after c.args.words.now, functions_from c.args.words.now, variants_from c.args.words.now, guards_from c.args.words.now, sites_from c.args.words.now, pointers_from c.args.words.now, points_from c.args.words.now, targets_from c.args.words.now, end_from c.args.words.now)
+    omega (
+      arith,
+      n,
+      at,
+      room,
+      switches_after c.args.words.now,
+      functions_from c.args.words.now,
+      variants_from c.args.words.now,
+      guards_from c.args.words.now,
+      sites_from c.args.words.now,
+      pointers_from c.args.words.now,
+      points_from c.args.words.now,
+      targets_from c.args.words.now,
+      end_from c.args.words.now,
+    )
 
 pub tables_part-requires-clause-fit : goal.tables_part-requires-clause-fit
 tables_part-requires-clause-fit c = words_keep _ _ c.requires.words (all_fit c.args.bytes.now c.requires.spelled)

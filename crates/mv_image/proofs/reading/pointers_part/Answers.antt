@@ -9,7 +9,20 @@ pub rows_part-requires-clause-room : goal.rows_part-requires-clause-room
 rows_part-requires-clause-room c =
     let at : c.pointers_at-at.result ≡ pointers_at c.args.words.now = c.pointers_at-at.ensures.value ∙ ap pointers_at c.as_slice-slice.ensures in
     let n : c.later_word.result ≡ pointer_rows c.args.words.now = c.later_word.ensures ∙ ap pointer_rows c.as_slice-slice.ensures in
-    omega (arith, at, n, functions_from c.args.words.now, variants_from c.args.words.now, guards_from c.args.words.now, sites_from c.args.words.now, pointers_from c.args.words.now, points_from c.args.words.now, targets_from c.args.words.now, end_from c.args.words.now, c.requires)
+    omega (
+      arith,
+      at,
+      n,
+      functions_from c.args.words.now,
+      variants_from c.args.words.now,
+      guards_from c.args.words.now,
+      sites_from c.args.words.now,
+      pointers_from c.args.words.now,
+      points_from c.args.words.now,
+      targets_from c.args.words.now,
+      end_from c.args.words.now,
+      c.requires,
+    )
 
 pub returns-clause-words : goal.returns-clause-words
 returns-clause-words c =

@@ -1,4 +1,4 @@
-use Rattle.std.proofs.Common.{◌≡◌, ◌++◌, sym, ◌∙◌, ap, arith, drop, append-nil}
+use Rattle.std.proofs.Common.{◌++◌, sym, ◌∙◌, ap, arith, drop, append-nil}
 use Rattle.std.proofs.lemmas.List.{drop_all}
 use Rattle.mv_ast.specs.Numbering.{own_numbers}
 use Rattle.mv_ast.specs.Orders.{is_pointer_addressed, ordered_from, ordered_pointer}

@@ -26,7 +26,7 @@ use Rattle.mv_meaning.specs.Loops.{own_context, for_from, arms_from}
 use Rattle.mv_interpret.proofs.Calls.{too_deep, out_of_bound, missing, went_through, failed_inside, through_null, through_some, through_none}
 use Rattle.mv_meaning.proofs.Contexts.{numbers_at}
 use Rattle.mv_interpret.proofs.Depths.{stmt_within, arm_within, arms_within, stmts_depth, arms_depth, below-Block, below-Clear, below-Express, below-If, below-While, below-Do, below-For, below-Switch, below-Return, less_spent, spent_less}
-use Rattle.mv_meaning.proofs.Equations.{value_of-Number, value_of-Read, value_of-Function, value_of-Unary, value_of-Binary, value_of-Both, value_of-Either, value_of-Choose, value_of-Convert, value_of-Set, value_of-Change, value_of-After, value_of-Direct, value_of-Through, value_of-Known, callee_of-Read, callee_of-value, lvalue_of-Global, lvalue_of-Local, lvalue_of-GlobalAt, lvalue_of-LocalAt, flow_of-Block, flow_of-Clear, flow_of-Express, flow_of-If, flow_of-While, flow_of-Do, flow_of-For, flow_of-Switch, flow_of-Break, flow_of-Continue, flow_of-Return}
+use Rattle.mv_meaning.proofs.Equations.{value_of-Number, value_of-Read, value_of-Function, value_of-Unary, value_of-Binary, value_of-Both, value_of-Either, value_of-Choose, value_of-Convert, value_of-Set, value_of-Change, value_of-After, value_of-Direct, value_of-Through, value_of-Known, callee_of-Read, lvalue_of-Global, lvalue_of-Local, lvalue_of-GlobalAt, lvalue_of-LocalAt, flow_of-Block, flow_of-Clear, flow_of-Express, flow_of-If, flow_of-While, flow_of-Do, flow_of-For, flow_of-Switch, flow_of-Break, flow_of-Continue, flow_of-Return}
 use Rattle.mv_interpret.proofs.Lists.{values_init, values_step, values_fail, values_end}
 use Rattle.mv_interpret.proofs.Orders.{flows_step, flows_left, flows_fail, then_on-other}
 use Rattle.mv_interpret.proofs.Steps.{within, reached, in_range, out_of_range, on, failed, gave, halted, begun, zero_way, other_way, truth-zero, truth-one, stored_in, changed, unchanged, stepped_after}
@@ -317,7 +317,10 @@ value_of_call_through-returns-in-Some t c =
     λ type.
     let a = c.args in
     let found = sym c.function_of_number.ensures ∙ c.in-Some.is in
-    on _ _ c.in_ok-values.ensures (λ le1. on _ _ c.in_ok-v.ensures (λ le2. through_some a.program.now a.here type c.in_ok-values.values c.callee_of.new.frame c.callee_of.new.state c.in_ok-v.v c.in-Some.f c.if-v-eq0.false found c.call.ensures))
+    on _ _ c.in_ok-values.ensures
+    (λ le1. on _ _ c.in_ok-v.ensures
+    (λ le2. through_some a.program.now a.here type c.in_ok-values.values c.callee_of.new.frame c.callee_of.new.state c.in_ok-v.v c.in-Some.f
+    c.if-v-eq0.false found c.call.ensures))
 
 pub value_of_call_through-returns : goal.value_of_call_through-returns
 value_of_call_through-returns t c =
@@ -344,29 +347,39 @@ pub lvalue_of-returns-in_err-i-in-GlobalAt : goal.lvalue_of-returns-in_err-i-in-
 lvalue_of-returns-in_err-i-in-GlobalAt t c =
     let a = c.args in
     let r : c.from_residual.result ≡ Err c.in_err-i-in-GlobalAt.field-0.0 = search rules in
-    rw r (reached a.here a.frame.now a.state.now _ (lvalue_of-GlobalAt a.program.now (own_context a.program.now a.here.bound) a.target.now c.in-GlobalAt.g c.in-GlobalAt.e (ap out-Target c.in-GlobalAt.is ∙ outs-GlobalAt c.in-GlobalAt.g c.in-GlobalAt.e))
+    rw r (reached a.here a.frame.now a.state.now _
+    (lvalue_of-GlobalAt a.program.now (own_context a.program.now a.here.bound) a.target.now c.in-GlobalAt.g c.in-GlobalAt.e
+    (ap out-Target c.in-GlobalAt.is ∙ outs-GlobalAt c.in-GlobalAt.g c.in-GlobalAt.e))
     (failed _ (global_element c.in-GlobalAt.g) _ (rw c.get.ensures at c.in_err-i-in-GlobalAt.ensures)))
 
 pub lvalue_of-returns-in_err-i-in-LocalAt : goal.lvalue_of-returns-in_err-i-in-LocalAt
 lvalue_of-returns-in_err-i-in-LocalAt t c =
     let a = c.args in
     let r : c.from_residual-in_err-i-in-LocalAt.result ≡ Err c.in_err-i-in-LocalAt.field-0.0 = search rules in
-    rw r (reached a.here a.frame.now a.state.now _ (lvalue_of-LocalAt a.program.now (own_context a.program.now a.here.bound) a.target.now c.in-LocalAt.l c.in-LocalAt.e (ap out-Target c.in-LocalAt.is ∙ outs-LocalAt c.in-LocalAt.l c.in-LocalAt.e))
+    rw r (reached a.here a.frame.now a.state.now _
+    (lvalue_of-LocalAt a.program.now (own_context a.program.now a.here.bound) a.target.now c.in-LocalAt.l c.in-LocalAt.e
+    (ap out-Target c.in-LocalAt.is ∙ outs-LocalAt c.in-LocalAt.l c.in-LocalAt.e))
     (failed _ (local_element c.in-LocalAt.l) _ (rw c.get-in-LocalAt.ensures at c.in_err-i-in-LocalAt.ensures)))
 
 pub lvalue_of-returns-then-i-size_at : goal.lvalue_of-returns-then-i-size_at
 lvalue_of-returns-then-i-size_at t c =
     let a = c.args in
     let h = rw c.size_at.ensures at c.if-i-size_at.true in
-    reached a.here a.frame.now a.state.now _ (lvalue_of-GlobalAt a.program.now (own_context a.program.now a.here.bound) a.target.now c.in-GlobalAt.g c.in-GlobalAt.e (ap out-Target c.in-GlobalAt.is ∙ outs-GlobalAt c.in-GlobalAt.g c.in-GlobalAt.e))
-    (on _ (global_element c.in-GlobalAt.g) (rw c.get.ensures at c.in_ok-i-in-GlobalAt.ensures) (λ le. in_range a.here _ c.in_ok-i-in-GlobalAt.i (lvalue.Global c.in-GlobalAt.g) _ _ le h))
+    reached a.here a.frame.now a.state.now _
+    (lvalue_of-GlobalAt a.program.now (own_context a.program.now a.here.bound) a.target.now c.in-GlobalAt.g c.in-GlobalAt.e
+    (ap out-Target c.in-GlobalAt.is ∙ outs-GlobalAt c.in-GlobalAt.g c.in-GlobalAt.e))
+    (on _ (global_element c.in-GlobalAt.g) (rw c.get.ensures at c.in_ok-i-in-GlobalAt.ensures)
+    (λ le. in_range a.here _ c.in_ok-i-in-GlobalAt.i (lvalue.Global c.in-GlobalAt.g) _ _ le h))
 
 pub lvalue_of-returns-else-i-size_at : goal.lvalue_of-returns-else-i-size_at
 lvalue_of-returns-else-i-size_at t c =
     let a = c.args in
     let h = rw c.size_at.ensures at c.if-i-size_at.false in
-    reached a.here a.frame.now a.state.now _ (lvalue_of-GlobalAt a.program.now (own_context a.program.now a.here.bound) a.target.now c.in-GlobalAt.g c.in-GlobalAt.e (ap out-Target c.in-GlobalAt.is ∙ outs-GlobalAt c.in-GlobalAt.g c.in-GlobalAt.e))
-    (on _ (global_element c.in-GlobalAt.g) (rw c.get.ensures at c.in_ok-i-in-GlobalAt.ensures) (λ le. out_of_range a.here _ c.in_ok-i-in-GlobalAt.i (lvalue.Global c.in-GlobalAt.g) _ _ le h))
+    reached a.here a.frame.now a.state.now _
+    (lvalue_of-GlobalAt a.program.now (own_context a.program.now a.here.bound) a.target.now c.in-GlobalAt.g c.in-GlobalAt.e
+    (ap out-Target c.in-GlobalAt.is ∙ outs-GlobalAt c.in-GlobalAt.g c.in-GlobalAt.e))
+    (on _ (global_element c.in-GlobalAt.g) (rw c.get.ensures at c.in_ok-i-in-GlobalAt.ensures)
+    (λ le. out_of_range a.here _ c.in_ok-i-in-GlobalAt.i (lvalue.Global c.in-GlobalAt.g) _ _ le h))
 
 pub lvalue_of-returns-then-i-size_at-2 : goal.lvalue_of-returns-then-i-size_at-2
 lvalue_of-returns-then-i-size_at-2 t c =
@@ -420,7 +433,9 @@ values_of-returns-in_err-push t c =
 pub flow_of-returns-in-Block : goal.flow_of-returns-in-Block
 flow_of-returns-in-Block t c =
     let a = c.args in
-    begun a.here a.frame.now a.state.now _ (flow_of-Block a.program.now (own_context a.program.now a.here.bound) a.s.now c.in-Block.body (ap out-Stmt c.in-Block.is ∙ outs-Block c.in-Block.body)) c.count.ensures (λ le0. c.flow_of_all.ensures)
+    begun a.here a.frame.now a.state.now _
+    (flow_of-Block a.program.now (own_context a.program.now a.here.bound) a.s.now c.in-Block.body
+    (ap out-Stmt c.in-Block.is ∙ outs-Block c.in-Block.body)) c.count.ensures (λ le0. c.flow_of_all.ensures)
 
 pub flow_of-returns-in-Break : goal.flow_of-returns-in-Break
 flow_of-returns-in-Break t c =
@@ -487,19 +502,25 @@ pub flow_of-returns-in_err-v-in-If : goal.flow_of-returns-in_err-v-in-If
 flow_of-returns-in_err-v-in-If t c =
     let a = c.args in
     let r : c.from_residual-in_err-v-in-If.result ≡ Err c.in_err-v-in-If.field-0.0 = search rules in
-    rw r (begun a.here a.frame.now a.state.now _ (flow_of-If a.program.now (own_context a.program.now a.here.bound) a.s.now c.in-If.e c.in-If.yes_part c.in-If.no_part (ap out-Stmt c.in-If.is ∙ outs-If c.in-If.e c.in-If.yes_part c.in-If.no_part)) c.count.ensures
+    rw r (begun a.here a.frame.now a.state.now _
+    (flow_of-If a.program.now (own_context a.program.now a.here.bound) a.s.now c.in-If.e c.in-If.yes_part c.in-If.no_part
+    (ap out-Stmt c.in-If.is ∙ outs-If c.in-If.e c.in-If.yes_part c.in-If.no_part)) c.count.ensures
     (λ le0. failed _ _ _ c.in_err-v-in-If.ensures))
 
 pub flow_of-returns-then-v-eq0 : goal.flow_of-returns-then-v-eq0
 flow_of-returns-then-v-eq0 t c =
     let a = c.args in
-    begun a.here a.frame.now a.state.now _ (flow_of-If a.program.now (own_context a.program.now a.here.bound) a.s.now c.in-If.e c.in-If.yes_part c.in-If.no_part (ap out-Stmt c.in-If.is ∙ outs-If c.in-If.e c.in-If.yes_part c.in-If.no_part)) c.count.ensures
+    begun a.here a.frame.now a.state.now _
+    (flow_of-If a.program.now (own_context a.program.now a.here.bound) a.s.now c.in-If.e c.in-If.yes_part c.in-If.no_part
+    (ap out-Stmt c.in-If.is ∙ outs-If c.in-If.e c.in-If.yes_part c.in-If.no_part)) c.count.ensures
     (λ le0. on _ _ c.in_ok-v-in-If.ensures (λ le1. zero_way _ _ c.if-v-eq0.true c.flow_of_all-then-v-eq0.ensures))
 
 pub flow_of-returns-else-v-eq0 : goal.flow_of-returns-else-v-eq0
 flow_of-returns-else-v-eq0 t c =
     let a = c.args in
-    begun a.here a.frame.now a.state.now _ (flow_of-If a.program.now (own_context a.program.now a.here.bound) a.s.now c.in-If.e c.in-If.yes_part c.in-If.no_part (ap out-Stmt c.in-If.is ∙ outs-If c.in-If.e c.in-If.yes_part c.in-If.no_part)) c.count.ensures
+    begun a.here a.frame.now a.state.now _
+    (flow_of-If a.program.now (own_context a.program.now a.here.bound) a.s.now c.in-If.e c.in-If.yes_part c.in-If.no_part
+    (ap out-Stmt c.in-If.is ∙ outs-If c.in-If.e c.in-If.yes_part c.in-If.no_part)) c.count.ensures
     (λ le0. on _ _ c.in_ok-v-in-If.ensures (λ le1. other_way _ _ c.if-v-eq0.false c.flow_of_all-else-v-eq0.ensures))
 
 pub value_of-returns-in-Function : goal.value_of-returns-in-Function
@@ -659,24 +680,36 @@ pub flow_of-returns-in-Clear : goal.flow_of-returns-in-Clear
 flow_of-returns-in-Clear t c =
     let a = c.args in
     let es = map (value_of a.program.now (own_context a.program.now a.here.bound)) c.in-Clear.values in
-    begun a.here a.frame.now a.state.now _ (flow_of-Clear a.program.now (own_context a.program.now a.here.bound) a.s.now c.in-Clear.l c.in-Clear.values (ap out-Stmt c.in-Clear.is ∙ outs-Clear c.in-Clear.l c.in-Clear.values)) c.count.ensures (λ le0. cleared a.here c.in-Clear.l (any_of (map (names_local c.in-Clear.l) c.in-Clear.values)) es a.frame.now c.clear_local.new.frame _ c.count.new.state c.clear_local.new.state _ (length c.in-Clear.values)
-    (sym (length-map c.in-Clear.values (value_of a.program.now (own_context a.program.now a.here.bound)))) c.clear_local.ensures.locals c.clear_local.ensures.counted c.store_values.ensures)
+    begun a.here a.frame.now a.state.now _
+    (flow_of-Clear a.program.now (own_context a.program.now a.here.bound) a.s.now c.in-Clear.l c.in-Clear.values
+    (ap out-Stmt c.in-Clear.is ∙ outs-Clear c.in-Clear.l c.in-Clear.values)) c.count.ensures
+    (λ le0. cleared a.here c.in-Clear.l (any_of (map (names_local c.in-Clear.l) c.in-Clear.values)) es a.frame.now c.clear_local.new.frame _
+    c.count.new.state c.clear_local.new.state _ (length c.in-Clear.values)
+    (sym (length-map c.in-Clear.values (value_of a.program.now (own_context a.program.now a.here.bound)))) c.clear_local.ensures.locals
+    c.clear_local.ensures.counted c.store_values.ensures)
 
 pub flow_of-returns-in-While : goal.flow_of-returns-in-While
 flow_of-returns-in-While t c =
     let a = c.args in
-    begun a.here a.frame.now a.state.now _ (flow_of-While a.program.now (own_context a.program.now a.here.bound) a.s.now c.in-While.e c.in-While.body (ap out-Stmt c.in-While.is ∙ outs-While c.in-While.e c.in-While.body)) c.count.ensures (λ le0. c.while_loop.ensures)
+    begun a.here a.frame.now a.state.now _
+    (flow_of-While a.program.now (own_context a.program.now a.here.bound) a.s.now c.in-While.e c.in-While.body
+    (ap out-Stmt c.in-While.is ∙ outs-While c.in-While.e c.in-While.body)) c.count.ensures (λ le0. c.while_loop.ensures)
 
 pub flow_of-returns-in-Do : goal.flow_of-returns-in-Do
 flow_of-returns-in-Do t c =
     let a = c.args in
-    begun a.here a.frame.now a.state.now _ (flow_of-Do a.program.now (own_context a.program.now a.here.bound) a.s.now c.in-Do.body c.in-Do.e (ap out-Stmt c.in-Do.is ∙ outs-Do c.in-Do.body c.in-Do.e)) c.count.ensures (λ le0. c.do_loop.ensures)
+    begun a.here a.frame.now a.state.now _
+    (flow_of-Do a.program.now (own_context a.program.now a.here.bound) a.s.now c.in-Do.body c.in-Do.e
+    (ap out-Stmt c.in-Do.is ∙ outs-Do c.in-Do.body c.in-Do.e)) c.count.ensures (λ le0. c.do_loop.ensures)
 
 pub flow_of-returns-in_err-begun-in-For : goal.flow_of-returns-in_err-begun-in-For
 flow_of-returns-in_err-begun-in-For t c =
     let a = c.args in
     let r : c.from_residual-in_err-begun-in-For.result ≡ Err c.in_err-begun-in-For.field-0.0 = search rules in
-    rw r (begun a.here a.frame.now a.state.now _ (flow_of-For a.program.now (own_context a.program.now a.here.bound) a.s.now c.in-For.first c.in-For.test c.in-For.step c.in-For.body (ap out-Stmt c.in-For.is ∙ outs-For c.in-For.first c.in-For.test c.in-For.step c.in-For.body)) c.count.ensures (λ le0. failed _ _ _ c.in_err-begun-in-For.ensures))
+    rw r (begun a.here a.frame.now a.state.now _
+    (flow_of-For a.program.now (own_context a.program.now a.here.bound) a.s.now c.in-For.first c.in-For.test c.in-For.step c.in-For.body
+    (ap out-Stmt c.in-For.is ∙ outs-For c.in-For.first c.in-For.test c.in-For.step c.in-For.body)) c.count.ensures
+    (λ le0. failed _ _ _ c.in_err-begun-in-For.ensures))
 
 pub flow_of-returns-then-eq : goal.flow_of-returns-then-eq
 flow_of-returns-then-eq t c =
@@ -686,7 +719,10 @@ flow_of-returns-then-eq t c =
     let s1 = c.flow_of_all-in-For.new.state in
     let from = for_from a.program.now (own_context a.program.now a.here.bound) c.in-For.test c.in-For.step c.in-For.body in
     let P : Flow → Type 0 = λ flow. IsOutcome s1.work (then_on flow from f1 (world_of a.here s1)) a.here c.for_loop.result c.for_loop.new.frame c.for_loop.new.state in
-    begun a.here a.frame.now a.state.now _ (flow_of-For a.program.now (own_context a.program.now a.here.bound) a.s.now c.in-For.first c.in-For.test c.in-For.step c.in-For.body (ap out-Stmt c.in-For.is ∙ outs-For c.in-For.first c.in-For.test c.in-For.step c.in-For.body)) c.count.ensures (λ le0. on _ (λ flow. then_on flow from) c.in_ok-begun-in-For.ensures (λ le1. subst P (sym goes) c.for_loop.ensures))
+    begun a.here a.frame.now a.state.now _
+    (flow_of-For a.program.now (own_context a.program.now a.here.bound) a.s.now c.in-For.first c.in-For.test c.in-For.step c.in-For.body
+    (ap out-Stmt c.in-For.is ∙ outs-For c.in-For.first c.in-For.test c.in-For.step c.in-For.body)) c.count.ensures
+    (λ le0. on _ (λ flow. then_on flow from) c.in_ok-begun-in-For.ensures (λ le1. subst P (sym goes) c.for_loop.ensures))
 
 pub flow_of-returns-else-eq : goal.flow_of-returns-else-eq
 flow_of-returns-else-eq t c =
@@ -697,31 +733,48 @@ flow_of-returns-else-eq t c =
     let s1 = c.flow_of_all-in-For.new.state in
     let from = for_from a.program.now (own_context a.program.now a.here.bound) c.in-For.test c.in-For.step c.in-For.body in
     let P : Evaluation Flow → Type 0 = λ d. IsOutcome s1.work (d f1 (world_of a.here s1)) a.here (Ok flow) f1 s1 in
-    begun a.here a.frame.now a.state.now _ (flow_of-For a.program.now (own_context a.program.now a.here.bound) a.s.now c.in-For.first c.in-For.test c.in-For.step c.in-For.body (ap out-Stmt c.in-For.is ∙ outs-For c.in-For.first c.in-For.test c.in-For.step c.in-For.body)) c.count.ensures (λ le0. on _ (λ x. then_on x from) c.in_ok-begun-in-For.ensures (λ le1. subst P (sym (then_on-other flow from left)) (gave le1)))
+    begun a.here a.frame.now a.state.now _
+    (flow_of-For a.program.now (own_context a.program.now a.here.bound) a.s.now c.in-For.first c.in-For.test c.in-For.step c.in-For.body
+    (ap out-Stmt c.in-For.is ∙ outs-For c.in-For.first c.in-For.test c.in-For.step c.in-For.body)) c.count.ensures
+    (λ le0. on _ (λ x. then_on x from) c.in_ok-begun-in-For.ensures (λ le1. subst P (sym (then_on-other flow from left)) (gave le1)))
 
 pub flow_of-returns-in_err-v-in-Switch : goal.flow_of-returns-in_err-v-in-Switch
 flow_of-returns-in_err-v-in-Switch t c =
     let a = c.args in
     let r : c.from_residual-in_err-v-in-Switch.result ≡ Err c.in_err-v-in-Switch.field-0.0 = search rules in
-    rw r (begun a.here a.frame.now a.state.now _ (flow_of-Switch a.program.now (own_context a.program.now a.here.bound) a.s.now c.in-Switch.e c.in-Switch.arms (ap out-Stmt c.in-Switch.is ∙ outs-Switch c.in-Switch.e c.in-Switch.arms)) c.count.ensures (λ le0. failed _ _ _ c.in_err-v-in-Switch.ensures))
+    rw r (begun a.here a.frame.now a.state.now _
+    (flow_of-Switch a.program.now (own_context a.program.now a.here.bound) a.s.now c.in-Switch.e c.in-Switch.arms
+    (ap out-Stmt c.in-Switch.is ∙ outs-Switch c.in-Switch.e c.in-Switch.arms)) c.count.ensures
+    (λ le0. failed _ _ _ c.in_err-v-in-Switch.ensures))
 
 pub flow_of-returns-in_ok-v-in-Switch : goal.flow_of-returns-in_ok-v-in-Switch
 flow_of-returns-in_ok-v-in-Switch t c =
     let a = c.args in
     let rest = c.arms_from.ensures ∙ ap (λ n. drop n c.in-Switch.arms) c.first_arm-first.ensures.index in
-    begun a.here a.frame.now a.state.now _ (flow_of-Switch a.program.now (own_context a.program.now a.here.bound) a.s.now c.in-Switch.e c.in-Switch.arms (ap out-Stmt c.in-Switch.is ∙ outs-Switch c.in-Switch.e c.in-Switch.arms)) c.count.ensures (λ le0. on _ _ c.in_ok-v-in-Switch.ensures
-    (λ le1. switched a.program.now (own_context a.program.now a.here.bound) a.here c.in_ok-v-in-Switch.v c.in-Switch.arms _ c.value_of-in-Switch.new.frame c.value_of-in-Switch.new.state c.first_arm-first.new.state c.first_arm-first.ensures.counted rest c.arms_flow.ensures))
+    begun a.here a.frame.now a.state.now _
+    (flow_of-Switch a.program.now (own_context a.program.now a.here.bound) a.s.now c.in-Switch.e c.in-Switch.arms
+    (ap out-Stmt c.in-Switch.is ∙ outs-Switch c.in-Switch.e c.in-Switch.arms)) c.count.ensures
+    (λ le0. on _ _ c.in_ok-v-in-Switch.ensures
+    (λ le1. switched a.program.now (own_context a.program.now a.here.bound) a.here c.in_ok-v-in-Switch.v c.in-Switch.arms _
+    c.value_of-in-Switch.new.frame c.value_of-in-Switch.new.state c.first_arm-first.new.state c.first_arm-first.ensures.counted rest
+    c.arms_flow.ensures))
 
 pub flow_of-returns-in_err-v-in-Return : goal.flow_of-returns-in_err-v-in-Return
 flow_of-returns-in_err-v-in-Return t c =
     let a = c.args in
     let r : c.from_residual-in_err-v-in-Return.result ≡ Err c.in_err-v-in-Return.field-0.0 = search rules in
-    rw r (begun a.here a.frame.now a.state.now _ (flow_of-Return a.program.now (own_context a.program.now a.here.bound) a.s.now c.in-Return.e (ap out-Stmt c.in-Return.is ∙ outs-Return c.in-Return.e)) c.count.ensures (λ le0. failed _ _ _ c.in_err-v-in-Return.ensures))
+    rw r (begun a.here a.frame.now a.state.now _
+    (flow_of-Return a.program.now (own_context a.program.now a.here.bound) a.s.now c.in-Return.e
+    (ap out-Stmt c.in-Return.is ∙ outs-Return c.in-Return.e)) c.count.ensures
+    (λ le0. failed _ _ _ c.in_err-v-in-Return.ensures))
 
 pub flow_of-returns-in_ok-v-in-Return : goal.flow_of-returns-in_ok-v-in-Return
 flow_of-returns-in_ok-v-in-Return t c =
     let a = c.args in
-    begun a.here a.frame.now a.state.now _ (flow_of-Return a.program.now (own_context a.program.now a.here.bound) a.s.now c.in-Return.e (ap out-Stmt c.in-Return.is ∙ outs-Return c.in-Return.e)) c.count.ensures (λ le0. on _ _ c.in_ok-v-in-Return.ensures (λ le1. gave le1))
+    begun a.here a.frame.now a.state.now _
+    (flow_of-Return a.program.now (own_context a.program.now a.here.bound) a.s.now c.in-Return.e
+    (ap out-Stmt c.in-Return.is ∙ outs-Return c.in-Return.e)) c.count.ensures
+    (λ le0. on _ _ c.in_ok-v-in-Return.ensures (λ le1. gave le1))
 
 pub flow_of_all-flow_of-requires : goal.flow_of_all-flow_of-requires
 flow_of_all-flow_of-requires t c =
@@ -802,15 +855,21 @@ pub while_loop-returns-then-not-goes_back : goal.while_loop-returns-then-not-goe
 while_loop-returns-then-not-goes_back t c =
     let a = c.args in
     let b : goes_back c.in_ok-flow.flow ≡ false = search rules in
-    rw c.behind_loop.ensures (carried _ _ c.loop-v.invariant.rest (elsewhere c.loop-v.bound _ (on _ _ c.in_ok-v.ensures (λ le. other_way _ _ c.if-v-eq0.false (on _ _ c.in_ok-flow.ensures (λ le2. left_loop (record a.here { bound = c.loop-v.bound }) c.in_ok-flow.flow _ _ _ b le2))))))
+    rw c.behind_loop.ensures (carried _ _ c.loop-v.invariant.rest
+    (elsewhere c.loop-v.bound _ (on _ _ c.in_ok-v.ensures
+    (λ le. other_way _ _ c.if-v-eq0.false
+    (on _ _ c.in_ok-flow.ensures (λ le2. left_loop (record a.here { bound = c.loop-v.bound }) c.in_ok-flow.flow _ _ _ b le2))))))
 
 pub while_loop-returns-then-bound-eq0 : goal.while_loop-returns-then-bound-eq0
 while_loop-returns-then-bound-eq0 t c =
     let a = c.args in
     let b : goes_back c.in_ok-flow.flow ≡ true = search rules in
-    carried _ _ c.loop-v.invariant.rest (elsewhere c.loop-v.bound _
-    (while_back a.program.now (record a.here { bound = c.loop-v.bound }) c.loop-v.frame c.loop-v.state a.e.now a.body.now c.in_ok-v.v c.value_of.new.frame c.flow_of_all.new.frame c.value_of.new.state c.flow_of_all.new.state c.in_ok-flow.flow
-    c.in_ok-v.ensures c.if-v-eq0.false c.in_ok-flow.ensures (is_back _ b) (λ le. no_turn a.program.now (record a.here { bound = c.loop-v.bound }) c.loop-v.bound c.flow_of_all.new.frame c.flow_of_all.new.state (roll-Stmt (stmt.While a.e.now a.body.now)) c.if-bound-eq0.true le)))
+    carried _ _ c.loop-v.invariant.rest
+    (elsewhere c.loop-v.bound _ (while_back a.program.now (record a.here { bound = c.loop-v.bound }) c.loop-v.frame c.loop-v.state a.e.now a.body.now
+    c.in_ok-v.v c.value_of.new.frame c.flow_of_all.new.frame c.value_of.new.state c.flow_of_all.new.state c.in_ok-flow.flow c.in_ok-v.ensures
+    c.if-v-eq0.false c.in_ok-flow.ensures (is_back _ b)
+    (λ le. no_turn a.program.now (record a.here { bound = c.loop-v.bound }) c.loop-v.bound c.flow_of_all.new.frame c.flow_of_all.new.state
+    (roll-Stmt (stmt.While a.e.now a.body.now)) c.if-bound-eq0.true le)))
 
 pub while_loop-loop-v-preserved : goal.while_loop-loop-v-preserved
 while_loop-loop-v-preserved t c =
@@ -818,7 +877,8 @@ while_loop-loop-v-preserved t c =
     let b : goes_back c.in_ok-flow.flow ≡ true = search rules in
     record {
       lower = omega arith;
-      rest = while_turned a.program.now a.here _ c.loop-v.bound c.loop-v.frame c.loop-v.state c.count.new.state c.if-bound-eq0.false a.e.now a.body.now c.in_ok-v.v c.value_of.new.frame c.flow_of_all.new.frame c.value_of.new.state c.flow_of_all.new.state c.in_ok-flow.flow
+      rest = while_turned a.program.now a.here _ c.loop-v.bound c.loop-v.frame c.loop-v.state c.count.new.state c.if-bound-eq0.false a.e.now
+          a.body.now c.in_ok-v.v c.value_of.new.frame c.flow_of_all.new.frame c.value_of.new.state c.flow_of_all.new.state c.in_ok-flow.flow
           c.loop-v.invariant.rest c.in_ok-v.ensures.shown c.if-v-eq0.false c.in_ok-flow.ensures.shown (is_back _ b) c.count.ensures;
     }
 
@@ -839,26 +899,44 @@ do_loop-returns-in_err-v t c =
     let a = c.args in
     let b : goes_back c.in_ok-flow.flow ≡ true = search rules in
     let r : c.from_residual-in_err-v.result ≡ Err c.in_err-v.field-0.0 = search rules in
-    rw r (carried _ _ c.loop-flow.invariant.rest (elsewhere c.loop-flow.bound _
-    (do_back a.program.now (record a.here { bound = c.loop-flow.bound }) c.loop-flow.frame c.loop-flow.state a.body.now a.e.now c.in_ok-flow.flow c.flow_of_all.new.frame c.flow_of_all.new.state c.in_ok-flow.ensures (is_back _ b)
-    (failed (value_of a.program.now (own_context a.program.now c.loop-flow.bound) a.e.now c.flow_of_all.new.frame (world_of a.here c.flow_of_all.new.state)) (λ x. unless_zero x (give Goes) ((own_context a.program.now c.loop-flow.bound).loop (roll-Stmt (stmt.Do a.body.now a.e.now)))) _ c.in_err-v.ensures))))
+    rw r (carried _ _ c.loop-flow.invariant.rest
+    (elsewhere c.loop-flow.bound _
+    (do_back a.program.now (record a.here { bound = c.loop-flow.bound }) c.loop-flow.frame c.loop-flow.state a.body.now a.e.now
+    c.in_ok-flow.flow c.flow_of_all.new.frame c.flow_of_all.new.state c.in_ok-flow.ensures (is_back _ b)
+    (failed (value_of a.program.now (own_context a.program.now c.loop-flow.bound) a.e.now c.flow_of_all.new.frame
+    (world_of a.here c.flow_of_all.new.state))
+    (λ x. unless_zero x (give Goes) ((own_context a.program.now c.loop-flow.bound).loop (roll-Stmt (stmt.Do a.body.now a.e.now)))) _
+    c.in_err-v.ensures))))
 
 pub do_loop-returns-then-v-eq0 : goal.do_loop-returns-then-v-eq0
 do_loop-returns-then-v-eq0 t c =
     let a = c.args in
     let b : goes_back c.in_ok-flow.flow ≡ true = search rules in
-    carried _ _ c.loop-flow.invariant.rest (elsewhere c.loop-flow.bound _
-    (do_back a.program.now (record a.here { bound = c.loop-flow.bound }) c.loop-flow.frame c.loop-flow.state a.body.now a.e.now c.in_ok-flow.flow c.flow_of_all.new.frame c.flow_of_all.new.state c.in_ok-flow.ensures (is_back _ b)
-    (on (value_of a.program.now (own_context a.program.now c.loop-flow.bound) a.e.now c.flow_of_all.new.frame (world_of a.here c.flow_of_all.new.state)) (λ x. unless_zero x (give Goes) ((own_context a.program.now c.loop-flow.bound).loop (roll-Stmt (stmt.Do a.body.now a.e.now)))) c.in_ok-v.ensures (λ le. zero_way (give Goes) ((own_context a.program.now c.loop-flow.bound).loop (roll-Stmt (stmt.Do a.body.now a.e.now))) c.if-v-eq0.true (gave le)))))
+    carried _ _ c.loop-flow.invariant.rest
+    (elsewhere c.loop-flow.bound _
+    (do_back a.program.now (record a.here { bound = c.loop-flow.bound }) c.loop-flow.frame c.loop-flow.state a.body.now a.e.now c.in_ok-flow.flow
+    c.flow_of_all.new.frame c.flow_of_all.new.state c.in_ok-flow.ensures (is_back _ b)
+    (on (value_of a.program.now (own_context a.program.now c.loop-flow.bound) a.e.now c.flow_of_all.new.frame
+    (world_of a.here c.flow_of_all.new.state))
+    (λ x. unless_zero x (give Goes) ((own_context a.program.now c.loop-flow.bound).loop (roll-Stmt (stmt.Do a.body.now a.e.now))))
+    c.in_ok-v.ensures (λ le. zero_way (give Goes)
+    ((own_context a.program.now c.loop-flow.bound).loop (roll-Stmt (stmt.Do a.body.now a.e.now))) c.if-v-eq0.true (gave le)))))
 
 pub do_loop-returns-then-bound-eq0 : goal.do_loop-returns-then-bound-eq0
 do_loop-returns-then-bound-eq0 t c =
     let a = c.args in
     let b : goes_back c.in_ok-flow.flow ≡ true = search rules in
-    carried _ _ c.loop-flow.invariant.rest (elsewhere c.loop-flow.bound _
-    (do_back a.program.now (record a.here { bound = c.loop-flow.bound }) c.loop-flow.frame c.loop-flow.state a.body.now a.e.now c.in_ok-flow.flow c.flow_of_all.new.frame c.flow_of_all.new.state c.in_ok-flow.ensures (is_back _ b)
-    (on (value_of a.program.now (own_context a.program.now c.loop-flow.bound) a.e.now c.flow_of_all.new.frame (world_of a.here c.flow_of_all.new.state)) (λ x. unless_zero x (give Goes) ((own_context a.program.now c.loop-flow.bound).loop (roll-Stmt (stmt.Do a.body.now a.e.now)))) c.in_ok-v.ensures (λ le. other_way (give Goes) ((own_context a.program.now c.loop-flow.bound).loop (roll-Stmt (stmt.Do a.body.now a.e.now))) c.if-v-eq0.false
-    (no_turn a.program.now (record a.here { bound = c.loop-flow.bound }) c.loop-flow.bound c.value_of.new.frame c.value_of.new.state (roll-Stmt (stmt.Do a.body.now a.e.now)) c.if-bound-eq0.true le)))))
+    carried _ _ c.loop-flow.invariant.rest
+    (elsewhere c.loop-flow.bound _
+    (do_back a.program.now (record a.here { bound = c.loop-flow.bound }) c.loop-flow.frame c.loop-flow.state a.body.now a.e.now c.in_ok-flow.flow
+    c.flow_of_all.new.frame c.flow_of_all.new.state c.in_ok-flow.ensures (is_back _ b)
+    (on (value_of a.program.now (own_context a.program.now c.loop-flow.bound) a.e.now c.flow_of_all.new.frame
+    (world_of a.here c.flow_of_all.new.state))
+    (λ x. unless_zero x (give Goes) ((own_context a.program.now c.loop-flow.bound).loop (roll-Stmt (stmt.Do a.body.now a.e.now))))
+    c.in_ok-v.ensures (λ le. other_way (give Goes)
+    ((own_context a.program.now c.loop-flow.bound).loop (roll-Stmt (stmt.Do a.body.now a.e.now))) c.if-v-eq0.false
+    (no_turn a.program.now (record a.here { bound = c.loop-flow.bound }) c.loop-flow.bound c.value_of.new.frame c.value_of.new.state
+    (roll-Stmt (stmt.Do a.body.now a.e.now)) c.if-bound-eq0.true le)))))
 
 pub do_loop-loop-flow-preserved : goal.do_loop-loop-flow-preserved
 do_loop-loop-flow-preserved t c =
@@ -866,7 +944,8 @@ do_loop-loop-flow-preserved t c =
     let b : goes_back c.in_ok-flow.flow ≡ true = search rules in
     record {
       lower = omega arith;
-      rest = do_turned a.program.now a.here _ c.loop-flow.bound c.loop-flow.frame c.loop-flow.state c.count.new.state c.if-bound-eq0.false a.body.now a.e.now c.in_ok-flow.flow c.flow_of_all.new.frame c.value_of.new.frame c.flow_of_all.new.state c.value_of.new.state c.in_ok-v.v
+      rest = do_turned a.program.now a.here _ c.loop-flow.bound c.loop-flow.frame c.loop-flow.state c.count.new.state c.if-bound-eq0.false a.body.now
+          a.e.now c.in_ok-flow.flow c.flow_of_all.new.frame c.value_of.new.frame c.flow_of_all.new.state c.value_of.new.state c.in_ok-v.v
           c.loop-flow.invariant.rest c.in_ok-flow.ensures.shown (is_back _ b) c.in_ok-v.ensures.shown c.if-v-eq0.false c.count.ensures;
     }
 
@@ -891,27 +970,39 @@ pub for_loop-returns-then-not-goes_back : goal.for_loop-returns-then-not-goes_ba
 for_loop-returns-then-not-goes_back t c =
     let a = c.args in
     let b : goes_back c.in_ok-flow.flow ≡ false = search rules in
-    rw c.behind_loop.ensures (carried _ _ c.loop-v.invariant.rest (elsewhere c.loop-v.bound _ (on _ _ c.in_ok-v.ensures (λ le. other_way _ _ c.if-v-eq0.false (on _ _ c.in_ok-flow.ensures (λ le2. left_loop (record a.here { bound = c.loop-v.bound }) c.in_ok-flow.flow _ _ _ b le2))))))
+    rw c.behind_loop.ensures (carried _ _ c.loop-v.invariant.rest
+    (elsewhere c.loop-v.bound _ (on _ _ c.in_ok-v.ensures
+    (λ le. other_way _ _ c.if-v-eq0.false
+    (on _ _ c.in_ok-flow.ensures (λ le2. left_loop (record a.here { bound = c.loop-v.bound }) c.in_ok-flow.flow _ _ _ b le2))))))
 
 pub for_loop-returns-in_err-optional_value : goal.for_loop-returns-in_err-optional_value
 for_loop-returns-in_err-optional_value t c =
     let a = c.args in
     let b : goes_back c.in_ok-flow.flow ≡ true = search rules in
     let r : c.from_residual-in_err-optional_value.result ≡ Err c.in_err-optional_value.field-0.0 = search rules in
-    rw r (carried _ _ c.loop-v.invariant.rest (elsewhere c.loop-v.bound _
-    (for_back a.program.now (record a.here { bound = c.loop-v.bound }) c.loop-v.frame c.loop-v.state a.test.now a.step.now a.body.now c.in_ok-v.v c.optional_value.new.frame c.flow_of_all.new.frame c.optional_value.new.state c.flow_of_all.new.state c.in_ok-flow.flow
-    c.in_ok-v.ensures c.if-v-eq0.false c.in_ok-flow.ensures (is_back _ b)
-    (failed (optional_value a.program.now (own_context a.program.now c.loop-v.bound) 0 a.step.now c.flow_of_all.new.frame (world_of a.here c.flow_of_all.new.state)) (λ x. (own_context a.program.now c.loop-v.bound).loop (roll-Stmt (stmt.For [] a.test.now a.step.now a.body.now))) _ c.in_err-optional_value.ensures))))
+    rw r (carried _ _ c.loop-v.invariant.rest
+    (elsewhere c.loop-v.bound _ (for_back a.program.now (record a.here { bound = c.loop-v.bound }) c.loop-v.frame c.loop-v.state a.test.now
+    a.step.now a.body.now c.in_ok-v.v c.optional_value.new.frame c.flow_of_all.new.frame c.optional_value.new.state
+    c.flow_of_all.new.state c.in_ok-flow.flow c.in_ok-v.ensures c.if-v-eq0.false c.in_ok-flow.ensures (is_back _ b)
+    (failed (optional_value a.program.now (own_context a.program.now c.loop-v.bound) 0 a.step.now c.flow_of_all.new.frame
+    (world_of a.here c.flow_of_all.new.state))
+    (λ x. (own_context a.program.now c.loop-v.bound).loop (roll-Stmt (stmt.For [] a.test.now a.step.now a.body.now))) _
+    c.in_err-optional_value.ensures))))
 
 pub for_loop-returns-then-bound-eq0 : goal.for_loop-returns-then-bound-eq0
 for_loop-returns-then-bound-eq0 t c =
     let a = c.args in
     let b : goes_back c.in_ok-flow.flow ≡ true = search rules in
-    carried _ _ c.loop-v.invariant.rest (elsewhere c.loop-v.bound _
-    (for_back a.program.now (record a.here { bound = c.loop-v.bound }) c.loop-v.frame c.loop-v.state a.test.now a.step.now a.body.now c.in_ok-v.v c.optional_value.new.frame c.flow_of_all.new.frame c.optional_value.new.state c.flow_of_all.new.state c.in_ok-flow.flow
-    c.in_ok-v.ensures c.if-v-eq0.false c.in_ok-flow.ensures (is_back _ b)
-    (on (optional_value a.program.now (own_context a.program.now c.loop-v.bound) 0 a.step.now c.flow_of_all.new.frame (world_of a.here c.flow_of_all.new.state)) (λ x. (own_context a.program.now c.loop-v.bound).loop (roll-Stmt (stmt.For [] a.test.now a.step.now a.body.now))) c.in_ok-optional_value.ensures
-    (λ le. no_turn a.program.now (record a.here { bound = c.loop-v.bound }) c.loop-v.bound c.optional_value-in-loop-v.new.frame c.optional_value-in-loop-v.new.state (roll-Stmt (stmt.For [] a.test.now a.step.now a.body.now)) c.if-bound-eq0.true le))))
+    carried _ _ c.loop-v.invariant.rest
+    (elsewhere c.loop-v.bound _ (for_back a.program.now (record a.here { bound = c.loop-v.bound }) c.loop-v.frame c.loop-v.state a.test.now a.step.now
+    a.body.now c.in_ok-v.v c.optional_value.new.frame c.flow_of_all.new.frame c.optional_value.new.state c.flow_of_all.new.state
+    c.in_ok-flow.flow c.in_ok-v.ensures c.if-v-eq0.false c.in_ok-flow.ensures (is_back _ b)
+    (on (optional_value a.program.now (own_context a.program.now c.loop-v.bound) 0 a.step.now c.flow_of_all.new.frame
+    (world_of a.here c.flow_of_all.new.state))
+    (λ x. (own_context a.program.now c.loop-v.bound).loop (roll-Stmt (stmt.For [] a.test.now a.step.now a.body.now)))
+    c.in_ok-optional_value.ensures
+    (λ le. no_turn a.program.now (record a.here { bound = c.loop-v.bound }) c.loop-v.bound c.optional_value-in-loop-v.new.frame
+    c.optional_value-in-loop-v.new.state (roll-Stmt (stmt.For [] a.test.now a.step.now a.body.now)) c.if-bound-eq0.true le))))
 
 pub for_loop-loop-v-preserved : goal.for_loop-loop-v-preserved
 for_loop-loop-v-preserved t c =
@@ -919,9 +1010,11 @@ for_loop-loop-v-preserved t c =
     let b : goes_back c.in_ok-flow.flow ≡ true = search rules in
     record {
       lower = omega arith;
-      rest = for_turned a.program.now a.here _ c.loop-v.bound c.loop-v.frame c.loop-v.state c.count.new.state c.if-bound-eq0.false a.test.now a.step.now a.body.now c.in_ok-v.v c.optional_value.new.frame c.flow_of_all.new.frame c.optional_value-in-loop-v.new.frame
+      rest = for_turned a.program.now a.here _ c.loop-v.bound c.loop-v.frame c.loop-v.state c.count.new.state c.if-bound-eq0.false a.test.now
+          a.step.now a.body.now c.in_ok-v.v c.optional_value.new.frame c.flow_of_all.new.frame c.optional_value-in-loop-v.new.frame
           c.optional_value.new.state c.flow_of_all.new.state c.optional_value-in-loop-v.new.state c.in_ok-flow.flow c.in_ok-optional_value.field-0
-          c.loop-v.invariant.rest c.in_ok-v.ensures.shown c.if-v-eq0.false c.in_ok-flow.ensures.shown (is_back _ b) c.in_ok-optional_value.ensures.shown c.count.ensures;
+          c.loop-v.invariant.rest c.in_ok-v.ensures.shown c.if-v-eq0.false c.in_ok-flow.ensures.shown (is_back _ b)
+          c.in_ok-optional_value.ensures.shown c.count.ensures;
     }
 
 pub arms_flow-loop-arm-init : goal.arms_flow-loop-arm-init
@@ -947,7 +1040,9 @@ arms_flow-returns-then-ne t c =
     let a = c.args in
     let l = c.loop-arm in
     let other : c.in_ok-flow.flow ≡ Goes → ⊥ = search rules in
-    rw c.behind_switch.ensures (arms_left a.program.now (own_context a.program.now a.here.bound) a.here _ a.arms.now l.arm-index l.frame l.state l.invariant.rest c.arm-item.result c.in_ok-flow.flow _ _ _ _ refl c.loop-arm-test.true c.arm-item.is c.in_ok-flow.ensures other)
+    rw c.behind_switch.ensures
+    (arms_left a.program.now (own_context a.program.now a.here.bound) a.here _ a.arms.now l.arm-index l.frame l.state l.invariant.rest
+    c.arm-item.result c.in_ok-flow.flow _ _ _ _ refl c.loop-arm-test.true c.arm-item.is c.in_ok-flow.ensures other)
 
 pub arms_flow-loop-arm-preserved : goal.arms_flow-loop-arm-preserved
 arms_flow-loop-arm-preserved t c =
@@ -956,7 +1051,8 @@ arms_flow-loop-arm-preserved t c =
     let goes : c.in_ok-flow.flow ≡ Goes = search rules in
     record {
       capped = within _ _ _ _ _ _ c.in_ok-flow.ensures.shown;
-      rest = arms_step a.program.now (own_context a.program.now a.here.bound) a.here _ a.arms.now l.arm-index l.frame l.state l.invariant.rest c.arm-item.result c.in_ok-flow.flow _ _ c.loop-arm-test.true c.arm-item.is c.in_ok-flow.ensures goes;
+      rest = arms_step a.program.now (own_context a.program.now a.here.bound) a.here _ a.arms.now l.arm-index l.frame l.state l.invariant.rest
+          c.arm-item.result c.in_ok-flow.flow _ _ c.loop-arm-test.true c.arm-item.is c.in_ok-flow.ensures goes;
     }
 
 pub arms_flow-returns : goal.arms_flow-returns
@@ -986,7 +1082,8 @@ store_values-loop-i-preserved t c =
     let f2 : Frame = record f1 { locals = c.put_word.new.objects } in
     record {
       capped = within _ _ _ _ _ _ c.in_ok-v.ensures.shown;
-      rest = stores_step a.program.now (own_context a.program.now a.here.bound) a.here a.l _ c.as_slice-e-items.result.now l.i l.frame l.state l.invariant.rest c.e-item.result c.in_ok-v.v f1 f2 c.value_of.new.state c.loop-i-test.true c.e-item.is c.in_ok-v.ensures
+      rest = stores_step a.program.now (own_context a.program.now a.here.bound) a.here a.l _ c.as_slice-e-items.result.now l.i l.frame l.state
+          l.invariant.rest c.e-item.result c.in_ok-v.v f1 f2 c.value_of.new.state c.loop-i-test.true c.e-item.is c.in_ok-v.ensures
           (ap (λ (words : List (List ℕ)). let f : Frame = record f1 { locals = words } in f) c.put_word.ensures);
     }
 
@@ -994,7 +1091,8 @@ pub store_values-returns : goal.store_values-returns
 store_values-returns t c =
     let a = c.args in
     let l = c.loop-i in
-    all_done (λ es. put_values a.l l.i (map (value_of a.program.now (own_context a.program.now a.here.bound)) es)) a.here _ c.as_slice-e-items.result.now l.i l.frame l.state l.invariant.rest refl _ _ refl c.loop-i-test.false l.invariant.capped
+    all_done (λ es. put_values a.l l.i (map (value_of a.program.now (own_context a.program.now a.here.bound)) es)) a.here _
+    c.as_slice-e-items.result.now l.i l.frame l.state l.invariant.rest refl _ _ refl c.loop-i-test.false l.invariant.capped
 
 -- ---- where there is no level left, memory is wanting, of which nothing is said
 

@@ -24,7 +24,9 @@ pub returns-in-empty : goal.returns-in-empty
 returns-in-empty c = (none c.args.text.now c.in-Ok.values c.in-Ok.ensures (omega (arith, c.in-empty.len_below, ap length c.as_slice.ensures)), refl)
 
 pub returns-in-len1 : goal.returns-in-len1
-returns-in-len1 c = one c.args.text.now c.in-Ok.values c.from.result c.in-Ok.ensures (omega (arith, c.in-len1.len_at_least, ap length c.as_slice.ensures)) (omega (arith, c.in-len1.len_below, ap length c.as_slice.ensures)) (c.from.ensures ∙ ap (λ (vs : List ℕ). get_or vs 0 0) c.as_slice.ensures)
+returns-in-len1 c =
+    one c.args.text.now c.in-Ok.values c.from.result c.in-Ok.ensures (omega (arith, c.in-len1.len_at_least, ap length c.as_slice.ensures))
+    (omega (arith, c.in-len1.len_below, ap length c.as_slice.ensures)) (c.from.ensures ∙ ap (λ (vs : List ℕ). get_or vs 0 0) c.as_slice.ensures)
 
 pub returns : goal.returns
 returns c = (several c.args.text.now c.in-Ok.values c.in-Ok.ensures (omega (arith, c.in_default.len_at_least, ap length c.as_slice.ensures)), refl)

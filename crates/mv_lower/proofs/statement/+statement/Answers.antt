@@ -142,13 +142,17 @@ lower_stmt-lower_return-requires t c =
 
 pub lower_stmts-lower_stmt-requires : goal.lower_stmts-lower_stmt-requires
 lower_stmts-lower_stmt-requires t c =
-    let b : stmts_size (take c.loop-s.s-index c.args.body.now) + stmt_size c.s-item.result ≤ stmts_size c.args.body.now = subst (λ (xs : List Stmt). stmts_size (take c.loop-s.s-index xs) + stmt_size c.s-item.result ≤ stmts_size xs) c.as_slice-s-items.ensures (sum_before stmt_size c.as_slice-s-items.result.now c.loop-s.s-index c.s-item.result c.loop-s-test.true c.s-item.is) in
+    let b : stmts_size (take c.loop-s.s-index c.args.body.now) + stmt_size c.s-item.result ≤ stmts_size c.args.body.now = subst
+    (λ (xs : List Stmt). stmts_size (take c.loop-s.s-index xs) + stmt_size c.s-item.result ≤ stmts_size xs) c.as_slice-s-items.ensures
+    (sum_before stmt_size c.as_slice-s-items.result.now c.loop-s.s-index c.s-item.result c.loop-s-test.true c.s-item.is) in
     (omega (arith, b, c.decreases), omega (arith, b))
 
 pub lower_arms-lower_stmts-requires : goal.lower_arms-lower_stmts-requires
 lower_arms-lower_stmts-requires t c =
     let a = c.arm-item.result in
-    let r : arms_size (take c.loop-arm.arm-index c.args.arms.now) + arm_size a ≤ arms_size c.args.arms.now = subst (λ (xs : List Arm). arms_size (take c.loop-arm.arm-index xs) + arm_size a ≤ arms_size xs) c.as_slice-arm-items.ensures (sum_before arm_size c.as_slice-arm-items.result.now c.loop-arm.arm-index a c.loop-arm-test.true c.arm-item.is) in
+    let r : arms_size (take c.loop-arm.arm-index c.args.arms.now) + arm_size a ≤ arms_size c.args.arms.now = subst
+    (λ (xs : List Arm). arms_size (take c.loop-arm.arm-index xs) + arm_size a ≤ arms_size xs) c.as_slice-arm-items.ensures
+    (sum_before arm_size c.as_slice-arm-items.result.now c.loop-arm.arm-index a c.loop-arm-test.true c.arm-item.is) in
     let s = size_arm a in
     let j = ap (used c.args.function.now) c.in_arm-inside.ensures in
     (omega (arith, r, s, c.decreases), omega (arith, r, s, j))
@@ -182,13 +186,18 @@ lower_arms-loop-arm-preserved t c =
     let code = ap (λ (x : Code). x.code) body in
     let top = ap (λ (x : Code). x.top) body in
     let s : suc i ≡ i + 1 = omega arith in
-    let codes = ap (λ (l : List Arm). arms_code n i (map (arm_at c.args.pointers.now g) l) j) nx ∙ code_step c.args.pointers.now g j i a rest ∙ ap (λ k. arm_code n i (stmts_at c.args.pointers.now g a.body (in_arm j)).code ++ arms_code n k (map (arm_at c.args.pointers.now g) rest) j) s in
+    let codes = ap (λ (l : List Arm). arms_code n i (map (arm_at c.args.pointers.now g) l) j) nx ∙ code_step c.args.pointers.now g j i a rest ∙
+    ap (λ k. arm_code n i (stmts_at c.args.pointers.now g a.body (in_arm j)).code ++ arms_code n k (map (arm_at c.args.pointers.now g) rest) j)
+    s in
     let added = c.in_ok-arm_code.ensures ∙ (ap (λ m. arm_code m c.loop-arm.place c.in_ok-body.body.code) c.len-n.ensures ∙ (ap (λ k. arm_code n k c.in_ok-body.body.code) inv.0 ∙ ap (λ (x : List Stm). arm_code n i x) code)) in
     let tops = ap (λ (l : List Arm). arms_top n (map (arm_at c.args.pointers.now g) l) j) nx ∙ top_step c.args.pointers.now g j a rest in (
       omega (arith, inv.0),
       omega (arith, inv.1),
-      ap (λ (x : List Stm). x ++ arms_code n (i + 1) (map (arm_at c.args.pointers.now g) rest) j) (c.in_ok-append.ensures.ok ∙ ap (λ (x : List Stm). c.loop-arm.code ++ x) added) ∙
-          (append_assoc c.loop-arm.code (arm_code n i (stmts_at c.args.pointers.now g a.body (in_arm j)).code) (arms_code n (i + 1) (map (arm_at c.args.pointers.now g) rest) j) ∙ (ap (λ (x : List Stm). c.loop-arm.code ++ x) (sym codes) ∙ inv.2)),
+      ap (λ (x : List Stm). x ++ arms_code n (i + 1) (map (arm_at c.args.pointers.now g) rest) j)
+          (c.in_ok-append.ensures.ok ∙ ap (λ (x : List Stm). c.loop-arm.code ++ x) added) ∙
+          (append_assoc c.loop-arm.code (arm_code n i (stmts_at c.args.pointers.now g a.body (in_arm j)).code)
+          (arms_code n (i + 1) (map (arm_at c.args.pointers.now g) rest) j) ∙
+          (ap (λ (x : List Stm). c.loop-arm.code ++ x) (sym codes) ∙ inv.2)),
       omega (arith, inv.3, tops, top),
     )
 
@@ -206,7 +215,8 @@ lower_stmts-loop-s-preserved t c =
     let a = c.s-item.result in
     let g = c.args.function.now in
     let j = seen_jumps c.args.jumps in
-    let more = subst (λ (xs : List Stmt). stmts_at c.args.pointers.now g (take (i + 1) xs) j ≡ with_stmt c.args.pointers.now g j (take i xs) a) c.as_slice-s-items.ensures (stmts_push c.args.pointers.now g j c.as_slice-s-items.result.now i a c.loop-s-test.true c.s-item.is) in
+    let more = subst (λ (xs : List Stmt). stmts_at c.args.pointers.now g (take (i + 1) xs) j ≡ with_stmt c.args.pointers.now g j (take i xs) a)
+    c.as_slice-s-items.ensures (stmts_push c.args.pointers.now g j c.as_slice-s-items.result.now i a c.loop-s-test.true c.s-item.is) in
     let old = c.loop-s.invariant in
     let part = c.in_ok-part.ensures in
     let code = c.in_ok-append.ensures.ok ∙ (ap (λ (x : Code). x.code ++ c.in_ok-part.part.code) old ∙ ap (λ (x : Code). (stmts_at c.args.pointers.now g (take i c.args.body.now) j).code ++ x.code) part) in

@@ -9,8 +9,10 @@ invariant-lower_stmts-loop-s l = (let c : Code = record { code = l.code; top = l
 abbrev pub invariant-lower_arms-loop-arm : goal.invariant-lower_arms-loop-arm
 invariant-lower_arms-loop-arm l =
     (l.place ≡ l.arm-index) × (length l.function.locals ≤ l.top) ×
-    (l.code ++ arms_code (length l.function.locals) l.arm-index (map (arm_at l.pointers l.function) (drop l.arm-index l.arms)) (seen_jumps l.fn.jumps) ≡ arms_code (length l.function.locals) 0 (map (arm_at l.pointers l.function) l.arms) (seen_jumps l.fn.jumps)) ×
-    (max l.top (arms_top (length l.function.locals) (map (arm_at l.pointers l.function) (drop l.arm-index l.arms)) (seen_jumps l.fn.jumps)) ≡ arms_top (length l.function.locals) (map (arm_at l.pointers l.function) l.arms) (seen_jumps l.fn.jumps))
+    (l.code ++ arms_code (length l.function.locals) l.arm-index (map (arm_at l.pointers l.function) (drop l.arm-index l.arms)) (seen_jumps l.fn.jumps) ≡
+    arms_code (length l.function.locals) 0 (map (arm_at l.pointers l.function) l.arms) (seen_jumps l.fn.jumps)) ×
+    (max l.top (arms_top (length l.function.locals) (map (arm_at l.pointers l.function) (drop l.arm-index l.arms)) (seen_jumps l.fn.jumps)) ≡
+    arms_top (length l.function.locals) (map (arm_at l.pointers l.function) l.arms) (seen_jumps l.fn.jumps))
 
 abbrev pub decreases-lower_stmts : goal.decreases-lower_stmts
 decreases-lower_stmts l = 3 * stmts_size l.body.now + 1

@@ -50,7 +50,9 @@ lower_form-lower_binary-requires t c =
     (omega (arith, e, c.decreases), omega (arith, e))
 
 pub lower_form-returns-in-Binary : goal.lower_form-returns-in-Binary
-lower_form-returns-in-Binary t c = shown _ (ap (λ (f : Form). form_at c.args.pointers.now f c.args.ctype c.args.n) c.in-Binary.is ∙ form_binary c.args.pointers.now c.in-Binary.op c.in-Binary.a c.in-Binary.b c.args.ctype c.args.n) c.lower_binary.ensures
+lower_form-returns-in-Binary t c =
+    shown _ (ap (λ (f : Form). form_at c.args.pointers.now f c.args.ctype c.args.n) c.in-Binary.is ∙
+    form_binary c.args.pointers.now c.in-Binary.op c.in-Binary.a c.in-Binary.b c.args.ctype c.args.n) c.lower_binary.ensures
 
 pub lower_form-lower_both-requires : goal.lower_form-lower_both-requires
 lower_form-lower_both-requires t c =
@@ -74,7 +76,9 @@ lower_form-lower_choice-requires t c =
     (omega (arith, e, c.decreases), omega (arith, e))
 
 pub lower_form-returns-in-Choose : goal.lower_form-returns-in-Choose
-lower_form-returns-in-Choose t c = shown _ (ap (λ (f : Form). form_at c.args.pointers.now f c.args.ctype c.args.n) c.in-Choose.is ∙ form_choose c.args.pointers.now c.in-Choose.c c.in-Choose.a c.in-Choose.b c.args.ctype c.args.n) c.lower_choice.ensures
+lower_form-returns-in-Choose t c =
+    shown _ (ap (λ (f : Form). form_at c.args.pointers.now f c.args.ctype c.args.n) c.in-Choose.is ∙
+    form_choose c.args.pointers.now c.in-Choose.c c.in-Choose.a c.in-Choose.b c.args.ctype c.args.n) c.lower_choice.ensures
 
 pub lower_form-lower_converted-requires : goal.lower_form-lower_converted-requires
 lower_form-lower_converted-requires t c =
@@ -98,7 +102,9 @@ lower_form-lower_change-requires t c =
     (omega (arith, e, c.decreases), omega (arith, e))
 
 pub lower_form-returns-in-Change : goal.lower_form-returns-in-Change
-lower_form-returns-in-Change t c = shown _ (ap (λ (f : Form). form_at c.args.pointers.now f c.args.ctype c.args.n) c.in-Change.is ∙ form_change c.args.pointers.now c.in-Change.op c.in-Change.kind c.in-Change.target c.in-Change.a c.args.ctype c.args.n) c.lower_change.ensures
+lower_form-returns-in-Change t c =
+    shown _ (ap (λ (f : Form). form_at c.args.pointers.now f c.args.ctype c.args.n) c.in-Change.is ∙
+    form_change c.args.pointers.now c.in-Change.op c.in-Change.kind c.in-Change.target c.in-Change.a c.args.ctype c.args.n) c.lower_change.ensures
 
 pub lower_form-lower_after-requires : goal.lower_form-lower_after-requires
 lower_form-lower_after-requires t c =
@@ -122,7 +128,9 @@ lower_form-lower_through-requires t c =
     (omega (arith, e, c.decreases), omega (arith, e))
 
 pub lower_form-returns-in-Through : goal.lower_form-returns-in-Through
-lower_form-returns-in-Through t c = shown _ (ap (λ (f : Form). form_at c.args.pointers.now f c.args.ctype c.args.n) c.in-Through.is ∙ form_through c.args.pointers.now c.in-Through.args c.in-Through.callee c.args.ctype c.args.n) c.lower_through.ensures
+lower_form-returns-in-Through t c =
+    shown _ (ap (λ (f : Form). form_at c.args.pointers.now f c.args.ctype c.args.n) c.in-Through.is ∙
+    form_through c.args.pointers.now c.in-Through.args c.in-Through.callee c.args.ctype c.args.n) c.lower_through.ensures
 
 pub lower_form-lower_known-requires : goal.lower_form-lower_known-requires
 lower_form-lower_known-requires t c =
@@ -246,20 +254,30 @@ lower_with_callee-overflow_add-n t c =
 
 pub lower_exprs-lower_expr-requires : goal.lower_exprs-lower_expr-requires
 lower_exprs-lower_expr-requires t c =
-    let b : exprs_size (take c.loop-e.e-index c.args.es.now) + expr_size c.e-item.result ≤ exprs_size c.args.es.now = subst (λ (xs : List Expr). exprs_size (take c.loop-e.e-index xs) + expr_size c.e-item.result ≤ exprs_size xs) c.as_slice-e-items.ensures (sum_before expr_size c.as_slice-e-items.result.now c.loop-e.e-index c.e-item.result c.loop-e-test.true c.e-item.is) in
+    let b : exprs_size (take c.loop-e.e-index c.args.es.now) + expr_size c.e-item.result ≤ exprs_size c.args.es.now = subst
+    (λ (xs : List Expr). exprs_size (take c.loop-e.e-index xs) + expr_size c.e-item.result ≤ exprs_size xs) c.as_slice-e-items.ensures
+    (sum_before expr_size c.as_slice-e-items.result.now c.loop-e.e-index c.e-item.result c.loop-e-test.true c.e-item.is) in
     (omega (arith, b, c.decreases), omega (arith, b))
 
 pub lower_exprs-overflow_add-at : goal.lower_exprs-overflow_add-at
 lower_exprs-overflow_add-at t c =
-    let b : exprs_size (take c.loop-e.e-index c.args.es.now) + expr_size c.e-item.result ≤ exprs_size c.args.es.now = subst (λ (xs : List Expr). exprs_size (take c.loop-e.e-index xs) + expr_size c.e-item.result ≤ exprs_size xs) c.as_slice-e-items.ensures (sum_before expr_size c.as_slice-e-items.result.now c.loop-e.e-index c.e-item.result c.loop-e-test.true c.e-item.is) in
+    let b : exprs_size (take c.loop-e.e-index c.args.es.now) + expr_size c.e-item.result ≤ exprs_size c.args.es.now = subst
+    (λ (xs : List Expr). exprs_size (take c.loop-e.e-index xs) + expr_size c.e-item.result ≤ exprs_size xs) c.as_slice-e-items.ensures
+    (sum_before expr_size c.as_slice-e-items.result.now c.loop-e.e-index c.e-item.result c.loop-e-test.true c.e-item.is) in
     let one = size_expr c.e-item.result in
     omega (arith, b, one)
 
 pub lower_exprs-loop-e-preserved : goal.lower_exprs-loop-e-preserved
 lower_exprs-loop-e-preserved t c =
-    let p = subst (λ (xs : List Expr). MoreAt c.args.pointers.now xs c.loop-e.e-index c.e-item.result c.args.n) c.as_slice-e-items.ensures (exprs_push c.args.pointers.now c.as_slice-e-items.result.now c.loop-e.e-index c.e-item.result c.args.n c.loop-e-test.true c.e-item.is) in
+    let p = subst (λ (xs : List Expr). MoreAt c.args.pointers.now xs c.loop-e.e-index c.e-item.result c.args.n) c.as_slice-e-items.ensures
+    (exprs_push c.args.pointers.now c.as_slice-e-items.result.now c.loop-e.e-index c.e-item.result c.args.n c.loop-e-test.true c.e-item.is) in
     let one = size_expr c.e-item.result in
     let m = map_push seen c.loop-e.values c.in_ok-lower_expr.field-0 in
     let pushed = ap (map seen) c.in_ok-push.ensures.ok in
-    let at = ap (λ k. expr_at c.args.pointers.now c.e-item.result k) c.loop-e.invariant.0 in
-    (omega arith, omega (arith, one, p.size), pushed ∙ (m ∙ (ap (λ l. l ++ seen c.in_ok-lower_expr.field-0 ∷ []) c.loop-e.invariant.2 ∙ (ap (λ x. exprs_at c.args.pointers.now (take c.loop-e.e-index c.args.es.now) c.args.n ++ x ∷ []) (c.in_ok-lower_expr.ensures ∙ at) ∙ sym p.values))))
+    let at = ap (λ k. expr_at c.args.pointers.now c.e-item.result k) c.loop-e.invariant.0 in (
+      omega arith,
+      omega (arith, one, p.size),
+      pushed ∙ (m ∙ (ap (λ l. l ++ seen c.in_ok-lower_expr.field-0 ∷ []) c.loop-e.invariant.2 ∙
+          (ap (λ x. exprs_at c.args.pointers.now (take c.loop-e.e-index c.args.es.now) c.args.n ++ x ∷ []) (c.in_ok-lower_expr.ensures ∙ at) ∙
+          sym p.values))),
+    )

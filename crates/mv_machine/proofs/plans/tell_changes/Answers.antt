@@ -26,5 +26,7 @@ returns-clause-quiet g c = c.loop-place.invariant.1
 pub returns-clause-told : goal.returns-clause-told
 returns-clause-told g c =
     let i = c.loop-place.invariant in
-    subst (λ events. Fates (Becomes (λ probe. object_at probe.ptr probe.vtable) (λ probe. hearing ((goal.Probe-dyn g (probe.vtable, probe.value)).told probe.value) ((goal.Probe-dyn g (probe.vtable, probe.value)).patience probe.value)) events) c.args.probes.now.items c.loop-place.probes.items)
+    subst (λ events. Fates (Becomes (λ probe. object_at probe.ptr probe.vtable)
+    (λ probe. hearing ((goal.Probe-dyn g (probe.vtable, probe.value)).told probe.value)
+    ((goal.Probe-dyn g (probe.vtable, probe.value)).patience probe.value)) events) c.args.probes.now.items c.loop-place.probes.items)
     (told_all c.args.old.now c.args.new.now c.loop-place.place i.0 (omega (arith, c.loop-place-test.false)) i.2) i.3

@@ -11,7 +11,9 @@ use Rattle.mv_parse_declarations.proofs.declarator.declarator.Goals as goal
 
 pub loop-declarator-init : goal.loop-declarator-init
 loop-declarator-init c = record {
-  reads = λ n. loop_begins (model.with_attribute n (read n)) (λ (d : Declarator) r. reader.give d r) (λ d. d) n _ _ (c.in_ok-declarator.ensures.reads n) (go_on_give _ ∙ regrouped _ _ (model.direct (read n) (model.params n) (terminals c.args.text.now c.args.tokens.now)));
+  reads = λ n. loop_begins (model.with_attribute n (read n)) (λ (d : Declarator) r. reader.give d r) (λ d. d) n _ _
+      (c.in_ok-declarator.ensures.reads n)
+      (go_on_give _ ∙ regrouped _ _ (model.direct (read n) (model.params n) (terminals c.args.text.now c.args.tokens.now)));
   shorter = c.in_ok-declarator.ensures.shorter;
 }
 

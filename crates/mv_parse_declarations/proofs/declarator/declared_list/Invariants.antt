@@ -9,7 +9,8 @@ use Rattle.mv_parse_declarations.proofs.declarator.declared_list.Given as goal
 
 abbrev pub invariant-loop-after : goal.invariant-loop-after
 invariant-loop-after l = record {
-  reads : (n : ℕ) → Loops (reader.comma_list n (declared n (read n) (params n)) (terminals l.text l.tokens)) (is_mark 7) (reader.comma_pushed (declared n (read n) (params n))) (λ (xs : List Declarator) r. reader.give xs r) l.names (terminals l.text l.rest);
+  reads : (n : ℕ) → Loops (reader.comma_list n (declared n (read n) (params n)) (terminals l.text l.tokens)) (is_mark 7)
+      (reader.comma_pushed (declared n (read n) (params n))) (λ (xs : List Declarator) r. reader.give xs r) l.names (terminals l.text l.rest);
   shorter : length l.rest < length l.tokens;
 }
 

@@ -14,7 +14,9 @@ returns-in_err-first-clause-reads c = λ n. let p = err_from_is_err_and c.from_r
 
 pub loop-after-init : goal.loop-after-init
 loop-after-init c = record {
-  reads = λ n. closes_at (braced_begins n (enumerator (read n)) (terminals c.args.text.now c.args.tokens.now) (c.in_ok-rest.ensures.reads c.args.text.now) (c.in_ok-first.ensures.reads n)) (ap (λ (xs : List Member). xs ++ c.in_ok-first.first ∷ []) (sym c.new-members.ensures) ∙ sym c.in_ok-append.ensures);
+  reads = λ n. closes_at (braced_begins n (enumerator (read n)) (terminals c.args.text.now c.args.tokens.now)
+      (c.in_ok-rest.ensures.reads c.args.text.now) (c.in_ok-first.ensures.reads n))
+      (ap (λ (xs : List Member). xs ++ c.in_ok-first.first ∷ []) (sym c.new-members.ensures) ∙ sym c.in_ok-append.ensures);
   shorter = omega (arith, c.in_ok-first.ensures.shorter, c.in_ok-rest.ensures.shorter);
 }
 

@@ -8,8 +8,10 @@ use Rattle.mv_parse_declarations.proofs.initial.characters.Goals as goal
 
 pub loop-next-init : goal.loop-next-init
 loop-next-init c = record {
-  reads = λ text n. loops_at (loop_begins more_characters (λ (cs : List ℕ) r. reader.give cs r) characters_of n _ _ (c.in_ok-first.ensures.reads text) (go_on_give _ ∙ regrouped _ _ (reader.token is_string (terminals text c.args.tokens.now))))
-      (ap (λ (cs : List ℕ). cs ++ characters_of (terminal text c.in_ok-first.first.now)) (sym c.new-characters.ensures) ∙ sym c.in_ok-add_characters.ensures) refl;
+  reads = λ text n. loops_at (loop_begins more_characters (λ (cs : List ℕ) r. reader.give cs r) characters_of n _ _ (c.in_ok-first.ensures.reads text)
+      (go_on_give _ ∙ regrouped _ _ (reader.token is_string (terminals text c.args.tokens.now))))
+      (ap (λ (cs : List ℕ). cs ++ characters_of (terminal text c.in_ok-first.first.now)) (sym c.new-characters.ensures) ∙
+      sym c.in_ok-add_characters.ensures) refl;
   shorter = c.in_ok-first.ensures.shorter;
 }
 

@@ -10,7 +10,9 @@ use Rattle.mv_parse_declarations.proofs.initial.values.Goals as goal
 
 pub loop-after-init : goal.loop-after-init
 loop-after-init c = record {
-  reads = λ n. closes_at (braced_begins n (read n Assign) (terminals c.args.text.now c.args.tokens.now) (c.in_ok-rest.ensures.reads c.args.text.now) (c.in_ok-first.ensures.reads n)) (ap (λ (xs : List Node). xs ++ c.in_ok-first.first ∷ []) (sym c.new-values.ensures) ∙ sym c.in_ok-append.ensures);
+  reads = λ n. closes_at (braced_begins n (read n Assign) (terminals c.args.text.now c.args.tokens.now) (c.in_ok-rest.ensures.reads c.args.text.now)
+      (c.in_ok-first.ensures.reads n))
+      (ap (λ (xs : List Node). xs ++ c.in_ok-first.first ∷ []) (sym c.new-values.ensures) ∙ sym c.in_ok-append.ensures);
   shorter = omega (arith, c.in_ok-first.ensures.shorter, c.in_ok-rest.ensures.shorter);
 }
 

@@ -25,7 +25,8 @@ decreases-parameter_list l = 4 * length l.tokens.now
 
 abbrev pub invariant-some_params-loop-after : goal.invariant-some_params-loop-after
 invariant-some_params-loop-after l = record {
-  reads : (n : ℕ) → Loops (reader.comma_list n (parameter n (read n) (params n)) (terminals l.text l.tokens)) (is_mark 7) (reader.comma_pushed (parameter n (read n) (params n))) (λ (xs : List Param) r. reader.give xs r) l.params (terminals l.text l.rest);
+  reads : (n : ℕ) → Loops (reader.comma_list n (parameter n (read n) (params n)) (terminals l.text l.tokens)) (is_mark 7)
+      (reader.comma_pushed (parameter n (read n) (params n))) (λ (xs : List Param) r. reader.give xs r) l.params (terminals l.text l.rest);
   shorter : length l.rest < length l.tokens;
 }
 

@@ -14,7 +14,9 @@ loop-specs-init c =
     let ts = terminals c.args.text.now c.args.tokens.now in
     record {
       reads = λ n. loops_at (loop_begins (model.specifier n (read n)) (λ (s : Specs) r. reader.give s r) (λ m. specs_at m.0 m.1) n _ _
-          (marked_gives ts (model.specifier n (read n) no_specs) (same_read (ap (λ s. model.specifier n (read n) s ts) c.no_specs-specs.ensures) (c.in_ok-rest.ensures.reads n))) (go_on_give _ ∙ regrouped _ _ (reader.marked (model.specifier n (read n) no_specs) ts)))
+          (marked_gives ts (model.specifier n (read n) no_specs)
+          (same_read (ap (λ s. model.specifier n (read n) s ts) c.no_specs-specs.ensures) (c.in_ok-rest.ensures.reads n)))
+          (go_on_give _ ∙ regrouped _ _ (reader.marked (model.specifier n (read n) no_specs) ts)))
           (ap (λ p. specs_at p c.specifier.new.specs) (sym (c.place_of.ensures c.args.text.now)) ∙ sym c.put_at.ensures) refl;
       shorter = c.in_ok-rest.ensures.shorter;
     }

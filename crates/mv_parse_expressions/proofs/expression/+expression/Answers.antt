@@ -13,7 +13,9 @@ use Rattle.mv_parse_grammar.proofs.Common.{level_opened}
 
 pub arguments-loop-after-init : goal.arguments-loop-after-init
 arguments-loop-after-init t c = record {
-  reads = λ n. loops_at (loop_begins (reader.comma_pushed (model.read n Assign)) _ (λ x. x ∷ []) n _ _ (c.in_ok-first.ensures.reads n) (skipped _ _ _ (c.in_default.ensures.next c.args.text.now) ∙ regrouped _ _ (model.read n Assign (terminals c.args.text.now c.args.tokens.now))))
+  reads = λ n. loops_at (loop_begins (reader.comma_pushed (model.read n Assign)) _ (λ x. x ∷ []) n _ _ (c.in_ok-first.ensures.reads n)
+      (skipped _ _ _ (c.in_default.ensures.next c.args.text.now) ∙
+      regrouped _ _ (model.read n Assign (terminals c.args.text.now c.args.tokens.now))))
       (cc (c.in_ok-append.ensures, c.new-given.ensures)) refl;
   shorter = c.in_ok-first.ensures.shorter;
 }
@@ -42,20 +44,25 @@ assign-returns-clause-reads t c =
     let place = c.place_of-place.result in
     let same = ap (λ p. node_at p (w.Assign (mark (terminal c.args.text.now c.in-Some.operator.now)) c.in_ok-left.left c.in_ok-right.right)) (sym (c.place_of-place.ensures c.args.text.now))
     ∙ (ap (λ m. node_at place (w.Assign m c.in_ok-left.left c.in_ok-right.right)) (sym c.mark_of.ensures) ∙ sym c.in_ok-node.ensures) in
-    bounded Assign _ (λ n. placed_ok {ts = (terminals c.args.text.now c.args.tokens.now)} (model.read n Cond) _ (c.in_ok-left.ensures.reads n) (choice_yes _ _ (c.in-Some.ensures.next c.args.text.now) (token_ok _ (c.in-Some.ensures.next c.args.text.now)
-    (then_ok _ (c.in_ok-right.ensures.reads n) (given_ok _ _ _ same refl)))))
+    bounded Assign _ (λ n. placed_ok {ts = (terminals c.args.text.now c.args.tokens.now)} (model.read n Cond) _ (c.in_ok-left.ensures.reads n)
+    (choice_yes _ _ (c.in-Some.ensures.next c.args.text.now)
+    (token_ok _ (c.in-Some.ensures.next c.args.text.now) (then_ok _ (c.in_ok-right.ensures.reads n) (given_ok _ _ _ same refl)))))
 
 pub binary-returns-then-rank-eq0-clause-reads : goal.binary-returns-then-rank-eq0-clause-reads
 binary-returns-then-rank-eq0-clause-reads t c = λ n.
     rw (sym (level_zero n (model.read n) c.args.rank (terminals c.args.text.now c.args.tokens.now) c.if-rank-eq0.true)) (c.cast.ensures.reads n)
 
 pub binary-returns-in_err-left-clause-reads : goal.binary-returns-in_err-left-clause-reads
-binary-returns-in_err-left-clause-reads t c = λ n. let p = err_from_is_err_and c.from_residual.result c.from_residual.ensures.1 in rw (p.1, p.2)
-    (rw (level_opened n (model.read n) c.args.rank (terminals c.args.text.now c.args.tokens.now) (omega arith)) (placed_err {ts = (terminals c.args.text.now c.args.tokens.now)} (model.level n (model.read n) (c.args.rank - 1)) _ (c.in_err-left.ensures.reads n)))
+binary-returns-in_err-left-clause-reads t c =
+    λ n. let p = err_from_is_err_and c.from_residual.result c.from_residual.ensures.1 in
+    rw (p.1, p.2) (rw (level_opened n (model.read n) c.args.rank (terminals c.args.text.now c.args.tokens.now) (omega arith))
+    (placed_err {ts = (terminals c.args.text.now c.args.tokens.now)} (model.level n (model.read n) (c.args.rank - 1)) _
+    (c.in_err-left.ensures.reads n)))
 
 pub binary-loop-operator-init : goal.binary-loop-operator-init
 binary-loop-operator-init t c = record {
-  reads = λ n. loops_at (loop_begins_at _ _ n _ (terminals c.args.text.now c.args.tokens.now) (model.level n (model.read n) (c.args.rank - 1)) (c.in_ok-left.ensures.reads n) (level_opened n (model.read n) c.args.rank (terminals c.args.text.now c.args.tokens.now) (omega arith)))
+  reads = λ n. loops_at (loop_begins_at _ _ n _ (terminals c.args.text.now c.args.tokens.now) (model.level n (model.read n) (c.args.rank - 1))
+      (c.in_ok-left.ensures.reads n) (level_opened n (model.read n) c.args.rank (terminals c.args.text.now c.args.tokens.now) (omega arith)))
       (ap (λ p. (p, c.in_ok-left.left)) (sym (c.place_of-place.ensures c.args.text.now))) refl;
   shorter = c.in_ok-left.ensures.shorter;
 }
@@ -78,22 +85,35 @@ pub binary-returns-clause-reads : goal.binary-returns-clause-reads
 binary-returns-clause-reads t c = λ n. loop_stops (c.loop-operator.invariant.reads n) (c.in_default.ensures.next c.args.text.now) (given_ok _ _ _ refl refl)
 
 pub conditional-returns-in_err-after-clause-reads : goal.conditional-returns-in_err-after-clause-reads
-conditional-returns-in_err-after-clause-reads t c = λ n. let p = err_from_is_err_and c.from_residual-in_err-after.result c.from_residual-in_err-after.ensures.1 in rw (p.1, p.2)
-    (bounded Cond _ (λ n. placed_ok {ts = (terminals c.args.text.now c.args.tokens.now)} (model.level n (model.read n) 10) _ (c.in_ok-test.ensures.reads n) (choice_yes _ _ (c.in-Some.ensures.next c.args.text.now) (token_ok _ (c.in-Some.ensures.next c.args.text.now)
+conditional-returns-in_err-after-clause-reads t c =
+    λ n. let p = err_from_is_err_and c.from_residual-in_err-after.result c.from_residual-in_err-after.ensures.1 in
+    rw (p.1, p.2) (bounded Cond _
+    (λ n. placed_ok {ts = (terminals c.args.text.now c.args.tokens.now)} (model.level n (model.read n) 10) _ (c.in_ok-test.ensures.reads n)
+    (choice_yes _ _ (c.in-Some.ensures.next c.args.text.now)
+    (token_ok _ (c.in-Some.ensures.next c.args.text.now)
     (then_ok _ (c.in_ok-first.ensures.reads n) (then_err _ (c.in_err-after.ensures.reads c.args.text.now)))))) n)
 
 pub conditional-returns-clause-reads : goal.conditional-returns-clause-reads
 conditional-returns-clause-reads t c =
     let same = ap (λ p. node_at p (w.Choose c.in_ok-test.test c.in_ok-first.first c.in_ok-second.second)) (sym (c.place_of-place.ensures c.args.text.now)) ∙ sym c.in_ok-node.ensures in
-    bounded Cond _ (λ n. placed_ok {ts = (terminals c.args.text.now c.args.tokens.now)} (model.level n (model.read n) 10) _ (c.in_ok-test.ensures.reads n) (choice_yes _ _ (c.in-Some.ensures.next c.args.text.now) (token_ok _ (c.in-Some.ensures.next c.args.text.now)
-    (then_ok _ (c.in_ok-first.ensures.reads n) (then_ok _ (c.in_ok-after.ensures.reads c.args.text.now) (then_ok _ (c.in_ok-second.ensures.reads n) (given_ok _ _ _ same refl)))))))
+    bounded Cond _ (λ n. placed_ok {ts = (terminals c.args.text.now c.args.tokens.now)} (model.level n (model.read n) 10) _
+    (c.in_ok-test.ensures.reads n)
+    (choice_yes _ _ (c.in-Some.ensures.next c.args.text.now)
+    (token_ok _ (c.in-Some.ensures.next c.args.text.now)
+    (then_ok _ (c.in_ok-first.ensures.reads n)
+    (then_ok _ (c.in_ok-after.ensures.reads c.args.text.now)
+    (then_ok _ (c.in_ok-second.ensures.reads n) (given_ok _ _ _ same refl)))))))
 
 pub postfix-returns-in_err-left-clause-reads : goal.postfix-returns-in_err-left-clause-reads
-postfix-returns-in_err-left-clause-reads t c = λ n. let p = err_from_is_err_and c.from_residual.result c.from_residual.ensures.1 in rw (p.1, p.2) (placed_err {ts = (terminals c.args.text.now c.args.tokens.now)} (model.primary (model.read n)) _ (c.in_err-left.ensures.reads n))
+postfix-returns-in_err-left-clause-reads t c =
+    λ n. let p = err_from_is_err_and c.from_residual.result c.from_residual.ensures.1 in
+    rw (p.1, p.2) (placed_err {ts = (terminals c.args.text.now c.args.tokens.now)} (model.primary (model.read n)) _ (c.in_err-left.ensures.reads n))
 
 pub postfix-loop-left-init : goal.postfix-loop-left-init
 postfix-loop-left-init t c = record {
-  reads = λ n. loops_at (loop_begins_at _ _ n _ (terminals c.args.text.now c.args.tokens.now) (model.primary (model.read n)) (c.in_ok-left.ensures.reads n) refl) (ap (λ p. (p, c.in_ok-left.left)) (sym (c.place_of-place.ensures c.args.text.now))) refl;
+  reads = λ n. loops_at
+      (loop_begins_at _ _ n _ (terminals c.args.text.now c.args.tokens.now) (model.primary (model.read n)) (c.in_ok-left.ensures.reads n) refl)
+      (ap (λ p. (p, c.in_ok-left.left)) (sym (c.place_of-place.ensures c.args.text.now))) refl;
   shorter = c.in_ok-left.ensures.shorter;
 }
 

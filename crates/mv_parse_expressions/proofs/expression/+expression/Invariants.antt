@@ -42,7 +42,8 @@ decreases-suffix l = 20 * length l.tokens.now
 
 abbrev pub invariant-arguments-loop-after : goal.invariant-arguments-loop-after
 invariant-arguments-loop-after l = record {
-  reads : (n : ℕ) → Loops (model.arguments n (model.read n) (terminals l.text l.tokens)) (is_mark 7) (reader.comma_pushed (model.read n Assign)) (λ (xs : List Node) r. go_on (λ _. reader.give xs) (reader.token (is_mark 1) r)) l.given (terminals l.text l.rest);
+  reads : (n : ℕ) → Loops (model.arguments n (model.read n) (terminals l.text l.tokens)) (is_mark 7) (reader.comma_pushed (model.read n Assign))
+      (λ (xs : List Node) r. go_on (λ _. reader.give xs) (reader.token (is_mark 1) r)) l.given (terminals l.text l.rest);
   shorter : length l.rest < length l.tokens;
 }
 
@@ -51,7 +52,9 @@ decreases-arguments-loop-after l = length l.rest
 
 abbrev pub invariant-binary-loop-operator : goal.invariant-binary-loop-operator
 invariant-binary-loop-operator l = record {
-  reads : (n : ℕ) → Loops (model.level n (model.read n) l.rank (terminals l.text l.tokens)) (is_rank l.rank) (model.operation (model.level n (model.read n) (l.rank - 1)) l.rank) (λ (y : Place × Node). reader.give y.1) (l.place, l.left) (terminals l.text l.rest);
+  reads : (n : ℕ) → Loops (model.level n (model.read n) l.rank (terminals l.text l.tokens)) (is_rank l.rank)
+      (model.operation (model.level n (model.read n) (l.rank - 1)) l.rank) (λ (y : Place × Node). reader.give y.1) (l.place, l.left)
+      (terminals l.text l.rest);
   shorter : length l.rest < length l.tokens;
 }
 

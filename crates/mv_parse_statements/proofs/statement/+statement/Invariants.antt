@@ -36,7 +36,10 @@ decreases-switch_rest l = 4 * length l.tokens.now + 2
 
 abbrev pub invariant-block_rest-loop-lines : goal.invariant-block_rest-loop-lines
 invariant-block_rest-loop-lines l = record {
-  reads : (n : ℕ) → Loops (model.block_rest n (model.locals n) (model.statements n) l.place (terminals l.text l.tokens)) is_no_end (reader.pushed (model.block_item (model.locals n) (model.statements n))) (λ (ls : List Line) r. go_on (λ _. reader.give (line_at l.place (act.Block ls))) (reader.token (is_mark 5) r)) l.lines (terminals l.text l.rest);
+  reads : (n : ℕ) → Loops (model.block_rest n (model.locals n) (model.statements n) l.place (terminals l.text l.tokens)) is_no_end
+      (reader.pushed (model.block_item (model.locals n) (model.statements n)))
+      (λ (ls : List Line) r. go_on (λ _. reader.give (line_at l.place (act.Block ls))) (reader.token (is_mark 5) r)) l.lines
+      (terminals l.text l.rest);
   shorter : length l.rest ≤ length l.tokens;
 }
 

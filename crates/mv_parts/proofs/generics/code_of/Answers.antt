@@ -20,3 +20,6 @@ returns-clause-err c =
     let forms = c.lowered_forms_are_right.ensures in
     MatchResult-weaker c.select.result c.select.ensures (λ code h. tt)
     (refused forms.shallow forms.well_formed c.args.program.now c.requires.formed c.args.number c.args.body.now c.requires.generic c.code_has_words.ensures)
+
+pub returns-clause-words : goal.returns-clause-words
+returns-clause-words c = MatchResult-weaker c.select.result c.select.ensures (λ code h. c.code_has_words.ensures) (λ e h. tt)

@@ -10,4 +10,5 @@ returns-in-None c =
 pub returns-in-Some : goal.returns-in-Some
 returns-in-Some c =
     c.copied.ensures ∙ c.get.ensures ∙ ap (λ (l : List VariantRow). slice_get l c.in-Some.number) c.variants.ensures
-    ∙ sym (variant_at c.args.image.now c.args.group.function c.args.binding.now c.min-count.result c.padded-values.result (Some c.in-Some.number) c.if-not-binding.false c.has_six.ensures c.min-count.ensures c.padded-values.ensures c.in-Some.ensures)
+    ∙ sym (variant_at c.args.image.now c.args.group.function c.args.binding.now c.min-count.result c.padded-values.result
+    (Some c.in-Some.number) c.if-not-binding.false c.has_six.ensures c.min-count.ensures c.padded-values.ensures c.in-Some.ensures)

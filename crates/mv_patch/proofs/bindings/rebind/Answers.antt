@@ -2,7 +2,7 @@ use Rattle.std.proofs.Common.{◌≡◌, ℕ, ◌+◌, ◌<◌, [], ◌++◌, fa
 use Rattle.std.proofs.lemmas.Option.{slice_get-get_or}
 use Rattle.mv_bindings.specs.declared.binding.Binding.{Binding}
 use Rattle.mv_descriptors.specs.declared.rows.PointerRow.{PointerRow}
-use Rattle.mv_patch.specs.Orders.{code_of, index_of, is_ordered, is_pointer_ordered, pointer_bindings, next_binding, next_pointer, ordered_rows, bindings_after}
+use Rattle.mv_patch.specs.Orders.{code_of, index_of, is_ordered, is_pointer_ordered, pointer_bindings, next_binding, next_pointer, ordered_rows, bindings_ordered}
 use Rattle.mv_patch.proofs.Rebinding.{one_bound, all_bound, behind_others}
 use Rattle.mv_patch.proofs.bindings.rebind.Goals as goal
 
@@ -55,7 +55,7 @@ loop-number-preserved c =
     }
 
 pub returns : goal.returns
-unfolding bindings_after
+unfolding bindings_ordered
 returns c =
     let l = c.loop-number in
     let image = c.args.image.now in

@@ -43,5 +43,7 @@ returns-clause-items c r =
     let points = l.invariant.passed.points in
     let count = l.invariant.count in
     let none = none_left image some other l.pairs.items l.pairs.items l.passed
-    (omega (arith, entries, sites, points, count, m, n, q, c.loop-place-test.false)) (omega (arith, entries, sites, points, count, m, n, q, c.loop-place-test.false)) (omega (arith, entries, sites, points, count, m, n, q, c.loop-place-test.false)) in
+    (omega (arith, entries, sites, points, count, m, n, q, c.loop-place-test.false))
+    (omega (arith, entries, sites, points, count, m, n, q, c.loop-place-test.false))
+    (omega (arith, entries, sites, points, count, m, n, q, c.loop-place-test.false)) in
     sym (append-nil l.pairs.items) ∙ ap (λ (ps : List Pair). l.pairs.items ++ ps) (sym none) ∙ l.invariant.found r ∙ tables_tell image r some other

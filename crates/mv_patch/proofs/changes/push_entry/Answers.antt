@@ -13,4 +13,7 @@ returns-clause-items c r =
     let at = ap (λ (rows : List FunctionRow). (get_or rows f no_function).entry) (c.as_slice.ensures ∙ c.functions.ensures) ∙ sym (entry_is image f c.requires.function) in
     c.push_change.ensures.items
     ∙ ap (λ (ps : List Pair). c.args.pairs.now.items ++ ps)
-    (entry_change image r (values_of c.args.before.bound.now) (values_of c.args.after.bound.now) c.args.before.variants.now c.args.after.variants.now c.requires.before.variants c.requires.after.variants f _ c.text_word-word.result c.at_entry-old.result c.at_entry-new.result c.requires.function at c.text_word-word.ensures c.at_entry-old.ensures c.at_entry-new.ensures)
+    (entry_change image r (values_of c.args.before.bound.now)
+    (values_of c.args.after.bound.now) c.args.before.variants.now c.args.after.variants.now c.requires.before.variants c.requires.after.variants f _
+    c.text_word-word.result c.at_entry-old.result c.at_entry-new.result c.requires.function at c.text_word-word.ensures c.at_entry-old.ensures
+    c.at_entry-new.ensures)

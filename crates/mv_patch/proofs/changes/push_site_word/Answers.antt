@@ -13,7 +13,9 @@ returns-then-word-eq0-clause-items c r =
     let row = c.site_at-site.ensures.there in
     c.push_change.ensures.items
     ∙ ap (λ (ps : List Pair). c.args.pairs.now.items ++ ps)
-    (site_change image r (values_of c.args.before.bound.now) (values_of c.args.after.bound.now) c.args.before.variants.now c.args.after.variants.now c.requires.before.variants c.requires.after.variants (c.args.word / 2) site.address c.text_word-word.result c.at_site.result c.at_site-then-word-eq0.result
+    (site_change image r (values_of c.args.before.bound.now)
+    (values_of c.args.after.bound.now) c.args.before.variants.now c.args.after.variants.now c.requires.before.variants c.requires.after.variants
+    (c.args.word / 2) site.address c.text_word-word.result c.at_site.result c.at_site-then-word-eq0.result
     (get_or (site_words image.sites) c.args.word 0) site row c.site_at-site.ensures.function refl (first_at image.sites c.args.word site row (omega (arith, c.if-word-eq0.true)))
     c.text_word-word.ensures c.at_site.ensures c.at_site-then-word-eq0.ensures)
 
@@ -24,6 +26,8 @@ returns-else-word-eq0-clause-items c r =
     let row = c.site_at-site.ensures.there in
     c.push_change-else-word-eq0.ensures.items
     ∙ ap (λ (ps : List Pair). c.args.pairs.now.items ++ ps)
-    (next_change image r (values_of c.args.before.bound.now) (values_of c.args.after.bound.now) c.args.before.variants.now c.args.after.variants.now c.requires.before.variants c.requires.after.variants (c.args.word / 2) (site.address + 4) c.text_word-word-else-word-eq0.result c.after_site.result c.after_site-else-word-eq0.result
+    (next_change image r (values_of c.args.before.bound.now)
+    (values_of c.args.after.bound.now) c.args.before.variants.now c.args.after.variants.now c.requires.before.variants c.requires.after.variants
+    (c.args.word / 2) (site.address + 4) c.text_word-word-else-word-eq0.result c.after_site.result c.after_site-else-word-eq0.result
     (get_or (site_words image.sites) c.args.word 0) site row c.site_at-site.ensures.function refl (second_at image.sites c.args.word site row (omega (arith, c.if-word-eq0.false)))
     c.text_word-word-else-word-eq0.ensures c.after_site.ensures c.after_site-else-word-eq0.ensures)

@@ -22,17 +22,20 @@ propagate_stm-returns-in-Set t c =
 pub propagate_stm-returns-in_ok-unstored-in-SetGlobal : goal.propagate_stm-returns-in_ok-unstored-in-SetGlobal
 propagate_stm-returns-in_ok-unstored-in-SetGlobal t c =
     let s = c.in-SetGlobal in
-    after_store c.args.temps c.args.facts.now c.in_ok-unstored-in-SetGlobal.field-0 c.as_slice-known.result.now c.as_slice-known.ensures c.args.stm.now s.g s.v c.in_ok-read_tree-in-SetGlobal.field-0 s.is c.in_ok-read_tree-in-SetGlobal.ensures c.in_ok-unstored-in-SetGlobal.ensures
+    after_store c.args.temps c.args.facts.now c.in_ok-unstored-in-SetGlobal.field-0 c.as_slice-known.result.now c.as_slice-known.ensures
+    c.args.stm.now s.g s.v c.in_ok-read_tree-in-SetGlobal.field-0 s.is c.in_ok-read_tree-in-SetGlobal.ensures c.in_ok-unstored-in-SetGlobal.ensures
 
 pub propagate_stm-returns-in_ok-unwritten-in-Divide : goal.propagate_stm-returns-in_ok-unwritten-in-Divide
 propagate_stm-returns-in_ok-unwritten-in-Divide t c =
     let s = c.in-Divide in
-    after_divide c.args.temps c.args.facts.now c.in_ok-unwritten-in-Divide.field-0 c.as_slice-known.result.now c.as_slice-known.ensures c.args.stm.now s.t s.o s.a c.in_ok-a-in-Divide.a s.b c.in_ok-b-in-Divide.b s.is c.in_ok-a-in-Divide.ensures c.in_ok-b-in-Divide.ensures c.in_ok-unwritten-in-Divide.ensures
+    after_divide c.args.temps c.args.facts.now c.in_ok-unwritten-in-Divide.field-0 c.as_slice-known.result.now c.as_slice-known.ensures c.args.stm.now
+    s.t s.o s.a c.in_ok-a-in-Divide.a s.b c.in_ok-b-in-Divide.b s.is c.in_ok-a-in-Divide.ensures c.in_ok-b-in-Divide.ensures c.in_ok-unwritten-in-Divide.ensures
 
 pub propagate_stm-returns-in_ok-copied-in-Check : goal.propagate_stm-returns-in_ok-copied-in-Check
 propagate_stm-returns-in_ok-copied-in-Check t c =
     let s = c.in-Check in
-    after_check c.args.temps c.args.facts.now c.in_ok-copied-in-Check.field-0 c.as_slice-known.result.now c.as_slice-known.ensures c.args.stm.now c.in_ok-copied-in-Check.ensures s.a s.i c.in_ok-read_tree-in-Check.field-0 s.is c.in_ok-read_tree-in-Check.ensures
+    after_check c.args.temps c.args.facts.now c.in_ok-copied-in-Check.field-0 c.as_slice-known.result.now c.as_slice-known.ensures c.args.stm.now
+    c.in_ok-copied-in-Check.ensures s.a s.i c.in_ok-read_tree-in-Check.field-0 s.is c.in_ok-read_tree-in-Check.ensures
 
 pub propagate_stm-returns-in-Read : goal.propagate_stm-returns-in-Read
 propagate_stm-returns-in-Read t c =
@@ -42,7 +45,8 @@ propagate_stm-returns-in-Read t c =
 pub propagate_stm-returns-in_ok-unstored-in-Write : goal.propagate_stm-returns-in_ok-unstored-in-Write
 propagate_stm-returns-in_ok-unstored-in-Write t c =
     let s = c.in-Write in
-    after_write c.args.temps c.args.facts.now c.in_ok-unstored-in-Write.field-0 c.as_slice-known.result.now c.as_slice-known.ensures c.args.stm.now s.a s.i c.in_ok-i-in-Write.i s.v c.in_ok-v-in-Write.v s.is c.in_ok-i-in-Write.ensures c.in_ok-v-in-Write.ensures c.in_ok-unstored-in-Write.ensures
+    after_write c.args.temps c.args.facts.now c.in_ok-unstored-in-Write.field-0 c.as_slice-known.result.now c.as_slice-known.ensures c.args.stm.now
+    s.a s.i c.in_ok-i-in-Write.i s.v c.in_ok-v-in-Write.v s.is c.in_ok-i-in-Write.ensures c.in_ok-v-in-Write.ensures c.in_ok-unstored-in-Write.ensures
 
 pub propagate_stm-returns-in_ok-unstored-in-Zero : goal.propagate_stm-returns-in_ok-unstored-in-Zero
 propagate_stm-returns-in_ok-unstored-in-Zero t c =
@@ -84,14 +88,17 @@ propagate_stm-returns-in_ok-copied-in-Back t c =
 pub propagate_stm-returns-in_ok-uncalled-in-Call : goal.propagate_stm-returns-in_ok-uncalled-in-Call
 propagate_stm-returns-in_ok-uncalled-in-Call t c =
     let s = c.in-Call in
-    after_call c.args.temps c.args.facts.now c.in_ok-uncalled-in-Call.field-0 c.as_slice-known.result.now c.as_slice-known.ensures c.args.stm.now s.r s.f c.in_ok-f-in-Call.f s.args c.in_ok-args-in-Call.args s.is c.in_ok-f-in-Call.ensures c.in_ok-args-in-Call.ensures c.in_ok-uncalled-in-Call.ensures
+    after_call c.args.temps c.args.facts.now c.in_ok-uncalled-in-Call.field-0 c.as_slice-known.result.now c.as_slice-known.ensures c.args.stm.now s.r
+    s.f c.in_ok-f-in-Call.f s.args c.in_ok-args-in-Call.args s.is c.in_ok-f-in-Call.ensures c.in_ok-args-in-Call.ensures c.in_ok-uncalled-in-Call.ensures
 
 pub propagate_stm-returns-in_ok-uncalled-in-Known : goal.propagate_stm-returns-in_ok-uncalled-in-Known
 propagate_stm-returns-in_ok-uncalled-in-Known t c =
     let s = c.in-Known in
-    after_known c.args.temps c.args.facts.now c.in_ok-uncalled-in-Known.field-0 c.as_slice-known.result.now c.as_slice-known.ensures c.args.stm.now s.r s.k s.args c.in_ok-args-in-Known.args s.is c.in_ok-args-in-Known.ensures c.in_ok-uncalled-in-Known.ensures
+    after_known c.args.temps c.args.facts.now c.in_ok-uncalled-in-Known.field-0 c.as_slice-known.result.now c.as_slice-known.ensures c.args.stm.now
+    s.r s.k s.args c.in_ok-args-in-Known.args s.is c.in_ok-args-in-Known.ensures c.in_ok-uncalled-in-Known.ensures
 
 pub propagate_stm-returns-in_ok-copied-in-Return : goal.propagate_stm-returns-in_ok-copied-in-Return
 propagate_stm-returns-in_ok-copied-in-Return t c =
     let s = c.in-Return in
-    after_return c.args.temps c.args.facts.now c.in_ok-copied-in-Return.field-0 c.as_slice-known.result.now c.as_slice-known.ensures c.args.stm.now c.in_ok-copied-in-Return.ensures s.v c.in_ok-read_tree-in-Return.field-0 s.is c.in_ok-read_tree-in-Return.ensures
+    after_return c.args.temps c.args.facts.now c.in_ok-copied-in-Return.field-0 c.as_slice-known.result.now c.as_slice-known.ensures c.args.stm.now
+    c.in_ok-copied-in-Return.ensures s.v c.in_ok-read_tree-in-Return.field-0 s.is c.in_ok-read_tree-in-Return.ensures

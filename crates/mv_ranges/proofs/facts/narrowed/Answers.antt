@@ -1,10 +1,11 @@
 use Rattle.std.proofs.Common.{arith, ◌∙◌, sym, subst}
+use Rattle.std.proofs.lemmas.Result.{IfOk-weaker}
 use Rattle.std.specs.Prelude.{List, slice_index}
 use Rattle.mv_ir.specs.Outcome.{State}
 use Rattle.mv_ranges.specs.declared.facts.Fact.{Fact}
 use Rattle.mv_ranges.specs.Ranges.{IsIn}
 use Rattle.mv_ranges.specs.Facts.{AllHold}
-use Rattle.mv_ranges.proofs.Holding.{kept_one, kept_none, parts, answered}
+use Rattle.mv_ranges.proofs.Holding.{kept_one, kept_none, parts}
 use Rattle.mv_ranges.proofs.facts.narrowed.Goals.{in-Within, in_default+in_ok-push-in_default, in-Some, in-None}
 use Rattle.mv_ranges.proofs.facts.narrowed.Goals as goal
 
@@ -15,7 +16,7 @@ loop-fact-preserved c s h = elim c.match-fact.branch [
 ]
 
 pub returns : goal.returns
-returns c = answered c.with.result _ _ c.with.ensures gives
+returns c = IfOk-weaker c.with.result _ _ gives c.with.ensures
   where
     lies : (s : State) → AllHold s c.args.facts.now → IsIn c.args.range (slice_index s.temps c.args.temp) → IsIn c.match-range_in.least (slice_index s.temps c.args.temp)
     lies s h i = elim c.match-range_in.branch [

@@ -72,7 +72,8 @@ walk_stm-returns-in_ok-walk_known-in-Known-clause-marked t c =
 pub walk_stm-returns-in_ok-copy_tree-in-SetGlobal-clause-marked :
     goal.walk_stm-returns-in_ok-copy_tree-in-SetGlobal-clause-marked
 walk_stm-returns-in_ok-copy_tree-in-SetGlobal-clause-marked t c =
-    of_statement c.args.ground.temps c.args.around.now c.args.facts (st.SetGlobal c.in-SetGlobal.g c.in-SetGlobal.v) c.args.stm.now (st.SetGlobal c.in-SetGlobal.g c.in_ok-copy_tree-in-SetGlobal.field-0) (Knowing c.args.facts) c.in-SetGlobal.is
+    of_statement c.args.ground.temps c.args.around.now c.args.facts (st.SetGlobal c.in-SetGlobal.g c.in-SetGlobal.v) c.args.stm.now
+    (st.SetGlobal c.in-SetGlobal.g c.in_ok-copy_tree-in-SetGlobal.field-0) (Knowing c.args.facts) c.in-SetGlobal.is
     (subst (λ v. IsMarked c.args.ground.temps c.args.around.now c.args.facts (st.SetGlobal c.in-SetGlobal.g c.in-SetGlobal.v) (st.SetGlobal c.in-SetGlobal.g v) (Knowing c.args.facts)) (sym c.in_ok-copy_tree-in-SetGlobal.ensures)
     (set_global_marked c.args.ground.temps c.args.around.now c.args.facts c.in-SetGlobal.g c.in-SetGlobal.v))
 

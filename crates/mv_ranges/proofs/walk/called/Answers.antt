@@ -1,16 +1,16 @@
 use Rattle.std.proofs.Common.{ℕ, Some, refl, subst, sym}
+use Rattle.std.proofs.lemmas.Result.{IfOk-weaker}
 use Rattle.mv_num.specs.declared.list.List.{List as Items}
 use Rattle.mv_ir.specs.World.{World}
 use Rattle.mv_ir.specs.Outcome.{State}
 use Rattle.mv_ir.specs.Meaning.{put, with_world}
 use Rattle.mv_ranges.specs.declared.facts.Fact.{Fact}
 use Rattle.mv_ranges.specs.Facts.{AllHold, AreAsLong, AreSameBut}
-use Rattle.mv_ranges.proofs.Holding.{answered}
 use Rattle.mv_ranges.proofs.Steps.{same_but, as_long}
 use Rattle.mv_ranges.proofs.walk.called.Goals as goal
 
 pub returns-in-Some : goal.returns-in-Some
-returns-in-Some c = answered c.without.result _ _ c.without.ensures gives
+returns-in-Some c = IfOk-weaker c.without.result _ _ gives c.without.ensures
   where
     gives : (after : Items Fact) → ((s s' : State) → AllHold s c.as_slice.result.now → AreSameBut c.in-Some.temp s s' → AreAsLong s s' → AllHold s' after) →
         (s : State) (w : World) (v : ℕ) → AllHold s c.args.facts.now → AllHold (put c.args.target v (with_world s w)) after

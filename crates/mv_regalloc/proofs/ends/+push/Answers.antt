@@ -26,7 +26,8 @@ Ends::push-invariant_of-self-2 t c =
           let same : now.ends.items ≡ ends = ap (λ i. i.ends.items) w.self-inside-is ∙ c.in_ok-reserve.ensures.items in
           let items : c.push_reserved.new.self.items ≡ more = c.push_reserved.ensures.items ∙ ap (λ e. e ++ end ∷ []) same in
           let room : last < length c.reserve.new.self.items = subst (λ e. last < length e) (sym c.in_ok-reserve.ensures.items) (omega (arith, next)) in
-          let value : w.min-lesser.result ≡ min (slice_index ends last) end = w.min-lesser.ensures ∙ ap (λ v. min v end) (w.index.ensures ∙ get_or_default c.reserve.new.self.items last w.index.result.now 0 room ∙ ap (λ e. slice_index e last) c.in_ok-reserve.ensures.items) in
+          let value : w.min-lesser.result ≡ min (slice_index ends last) end = w.min-lesser.ensures ∙
+          ap (λ v. min v end) (w.index.ensures ∙ get_or_default c.reserve.new.self.items last w.index.result.now 0 room ∙ ap (λ e. slice_index e last) c.in_ok-reserve.ensures.items) in
           subst (λ e. IsPaired e now.pairs) (sym items)
           (subst (IsPaired more) (sym (ap (λ i. i.pairs) w.self-inside-is))
           (is_paired more w.push.new.self some

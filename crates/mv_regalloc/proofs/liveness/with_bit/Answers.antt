@@ -11,7 +11,8 @@ returns-then-word-old-clause-bits c =
     let temp = c.args.temp in
     let bit = c.args.bit in
     let word = c.put-word.result in
-    λ n. put_at n parts number parts number temp word bit (word_there parts number (temp / 64) word (c.if-word-old.true ∙ c.word-old.ensures)) (λ t e. c.put-word.ensures t e ∙ ap (λ w. cond (eqb temp t) bit (in_word w t)) c.word-old.ensures)
+    λ n. put_at n parts number parts number temp word bit (word_there parts number (temp / 64) word (c.if-word-old.true ∙ c.word-old.ensures))
+    (λ t e. c.put-word.ensures t e ∙ ap (λ w. cond (eqb temp t) bit (in_word w t)) c.word-old.ensures)
 
 pub returns-clause-bits : goal.returns-clause-bits
 returns-clause-bits c =

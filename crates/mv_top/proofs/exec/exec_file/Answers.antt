@@ -9,7 +9,18 @@ use Rattle.mv_top.proofs.exec.exec_file.Goals as goal
 
 pub returns-in-Ok : goal.returns-in-Ok
 returns-in-Ok g c =
-    performs_so _ _ (λ lines status comes. ((given _ _ _ c.args.file.now _ status c.in-Ok.bytes c.as_slice.result.now c.as_slice.ensures.value c.in-Ok.ensures.bytes comes.0, c.load.ensures.same), record { asks = c.load.ensures.asks; shelf = count_kept _ _ _ c.in-Ok.ensures.count; input = comes.1.input; output = comes.1.output }))
+    performs_so _ _ (λ lines status comes. (
+      (
+        given _ _ _ c.args.file.now _ status c.in-Ok.bytes c.as_slice.result.now c.as_slice.ensures.value c.in-Ok.ensures.bytes comes.0,
+        c.load.ensures.same,
+      ),
+      record {
+        asks = c.load.ensures.asks;
+        shelf = count_kept _ _ _ c.in-Ok.ensures.count;
+        input = comes.1.input;
+        output = comes.1.output;
+      },
+    ))
     c.exec_bytes.result c.exec_bytes.ensures
 
 pub returns-in-Err : goal.returns-in-Err

@@ -12,7 +12,10 @@ returns-in-Ok g c bytes is =
     let runs = c.in-Ok.ensures.runs in
     let o = c.args.options.now in
     let lines = λ (log : List Event). asked_lines o c.args.loaded.now.image e.machine log e.report in
-    with_log _ lines e.report.log runs.0 runs.1 _ (ran _ _ _ o bytes c.args.loaded.now c.as_slice-actions.result.now e runs.0 c.as_slice-actions.ensures.value is runs.2, counts_of_stop _ _ e.report.stopped c.in-Ok.ensures.reading c.in-Ok.ensures.writing)
+    with_log _ lines e.report.log runs.0 runs.1 _ (
+      ran _ _ _ o bytes c.args.loaded.now c.as_slice-actions.result.now e runs.0 c.as_slice-actions.ensures.value is runs.2,
+      counts_of_stop _ _ e.report.stopped c.in-Ok.ensures.reading c.in-Ok.ensures.writing,
+    )
     c.finished.result c.finished.ensures.status c.finished.ensures.lines
 
 pub returns-in-Err : goal.returns-in-Err

@@ -1,6 +1,6 @@
 use Rattle.std.proofs.Common.{arith, subst}
 use Rattle.std.proofs.lemmas.Result.{err_from_is_err_and}
-use Rattle.mv_operator.specs.Operator.{IsRefusedFor}
+use Rattle.mv_actions.specs.Operator.{IsRefusedFor}
 use Rattle.mv_top.proofs.Few.{few_switches}
 use Rattle.mv_top.proofs.Causes.{all_fit, build_cause, item_cause}
 use Rattle.mv_check_limits.proofs.Orders.{none_exceeded}

@@ -12,7 +12,10 @@ returns-in-Ok-clause-ran g c text is =
     let executes = c.in-Ok.ensures.executes in
     let o = c.args.options.now in
     let lines = λ (log : List Event). asked_lines o c.args.prepared.now.built.image e.machine log e.report in
-    with_log _ lines e.report.log executes.0 executes.1 _ (ran _ _ _ o text c.args.prepared.now c.as_slice-actions.result.now e executes.0 c.as_slice-actions.ensures.value is executes.2, counts_of_stop _ _ e.report.stopped c.in-Ok.ensures.reading c.in-Ok.ensures.writing)
+    with_log _ lines e.report.log executes.0 executes.1 _ (
+      ran _ _ _ o text c.args.prepared.now c.as_slice-actions.result.now e executes.0 c.as_slice-actions.ensures.value is executes.2,
+      counts_of_stop _ _ e.report.stopped c.in-Ok.ensures.reading c.in-Ok.ensures.writing,
+    )
     c.finished.result c.finished.ensures.status c.finished.ensures.lines
 
 pub returns-in-Err-clause-ran : goal.returns-in-Err-clause-ran

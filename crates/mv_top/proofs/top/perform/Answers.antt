@@ -50,7 +50,9 @@ returns-in-Ok-Some-List g c =
     listed _ _ _ (map string_bytes c.args.words.now) _ _ c.list_file-status.result c.alone-in-Ok-Some-List.ensures.lines c.alone-in-Ok-Some-List.ensures.status
     (told_nothing _ _ c.args.probes.now.items c.requires) c.in-Ok-Some-List.image.now c.in-Ok-Some-List.words
     (is_command (map string_bytes c.args.words.now) c.in-Ok-Some-List.field-0 c.in-Ok-Some-List.field-0-0 (command.List c.in-Ok-Some-List.image c.in-Ok-Some-List.words)
-    c.in-Ok-Some-List.ensures c.in-Ok-Some-List.field-0-is c.in-Ok-Some-List.field-0-0-is) (listed_by _ _ c.in-Ok-Some-List.image.now c.in-Ok-Some-List.words c.shown_by_list.result c.list_file-status.result c.shown_by_list.ensures (c.list_file-status.ensures.comes _ _)) c.list_file-status.ensures.files
+    c.in-Ok-Some-List.ensures c.in-Ok-Some-List.field-0-is c.in-Ok-Some-List.field-0-0-is)
+    (listed_by _ _ c.in-Ok-Some-List.image.now c.in-Ok-Some-List.words c.shown_by_list.result c.list_file-status.result c.shown_by_list.ensures
+    (c.list_file-status.ensures.comes _ _)) c.list_file-status.ensures.files
     (record { asks = c.list_file-status.ensures.asks; shelf = c.list_file-status.ensures.count; input = count_kept _ _ _ refl; output = c.list_file-status.ensures.writing })
 
 pub returns-in-Ok-Some-Eval : goal.returns-in-Ok-Some-Eval

@@ -3,8 +3,9 @@ use Rattle.std.proofs.lemmas.Option.{slice_get_read}
 use Rattle.mv_num.proofs.Lists.{set_there}
 use Rattle.mv_bindings.specs.Acts.{Skip}
 use Rattle.mv_harts_runs.specs.Harts.{next_act}
+use Rattle.mv_harts_runs.proofs.Lists.{set_other}
 use Rattle.mv_harts_turns.specs.Groups.{IsSeat}
-use Rattle.mv_harts_turns.proofs.Places.{both_right, set_other}
+use Rattle.mv_harts_turns.proofs.Places.{both_right}
 use Rattle.mv_harts_turns.proofs.Seats.{on_none}
 use Rattle.mv_harts_turns.proofs.Advancing.{leads, follows, not_under, leader_stands, other_stands, executed_leader, executed_other}
 use Rattle.mv_harts_turns.proofs.group.Group.advance.Goals as goal
@@ -16,7 +17,9 @@ returns-then-hart-eq0-clause-advances g c = λ e image actions bytes hs shown fe
     let on = on_none 0 s.leader (bytes 0) hs.leader shown.leader.sits stop in
     let p = c.args.oracle.now in
     let q = c.advance.new.oracle in
-    leads image actions bytes s c.advance.new.self hs shown stop c.if-self.false c.args.hart c.if-hart-eq0.true ((goal.FetchOracle-dyn g (p.vtable, p.value)).way p.value) ((goal.FetchOracle-dyn g (q.vtable, q.value)).way q.value) (c.advance.ensures.asks e) c.advance.ensures.image c.advance.ensures.taken c.advance.ensures.stop
+    leads image actions bytes s c.advance.new.self hs shown stop c.if-self.false c.args.hart c.if-hart-eq0.true
+    ((goal.FetchOracle-dyn g (p.vtable, p.value)).way p.value) ((goal.FetchOracle-dyn g (q.vtable, q.value)).way q.value)
+    (c.advance.ensures.asks e) c.advance.ensures.image c.advance.ensures.taken c.advance.ensures.stop
     (c.advance.ensures.advances e 0 (bytes 0) hs.leader (next_act hs.actions) shown.leader.sits (fetches.leader on) (fetches.leader_stores on (not_under hs.under (shown.under ∙ c.if-self.false))))
 
 pub returns-then-hart-eq0-clause-stands : goal.returns-then-hart-eq0-clause-stands
@@ -39,7 +42,9 @@ returns-clause-advances g c = λ e image actions bytes hs shown fetches.
     let q = c.advance-2.new.oracle in
     follows image actions bytes s _ hs n old seat shown stop
     (record { leader = refl; at = at; own = set_there items n old seat at; rest = λ k ne. set_other items n k seat ne; played = refl; wanted = refl; under = refl; commits = refl })
-    o.0 o.1 o.2 c.args.hart is_hart ((goal.FetchOracle-dyn g (p.vtable, p.value)).way p.value) ((goal.FetchOracle-dyn g (q.vtable, q.value)).way q.value) (c.advance-2.ensures.asks e) c.advance-2.ensures.image c.advance-2.ensures.taken c.advance-2.ensures.stop
+    o.0 o.1 o.2 c.args.hart is_hart ((goal.FetchOracle-dyn g (p.vtable, p.value)).way p.value)
+    ((goal.FetchOracle-dyn g (q.vtable, q.value)).way q.value)
+    (c.advance-2.ensures.asks e) c.advance-2.ensures.image c.advance-2.ensures.taken c.advance-2.ensures.stop
     (c.advance-2.ensures.advances e (suc n) (bytes (suc n)) o.0 Skip o.2.sits (fetches.others n o.0 o.1 on) (fetches.stores n o.0 o.1 on))
 
 pub returns-clause-stands : goal.returns-clause-stands

@@ -3,11 +3,12 @@ use Rattle.std.proofs.lemmas.Option.{slice_get_read}
 use Rattle.mv_num.proofs.Lists.{set_there}
 use Rattle.mv_bindings.specs.Acts.{Skip}
 use Rattle.mv_harts_runs.specs.Harts.{move, last_of}
+use Rattle.mv_harts_runs.proofs.Lists.{set_other}
 use Rattle.mv_harts_one.specs.declared.seat.Seat.{Seat}
 use Rattle.mv_harts_one.specs.Seats.{mode_of}
 use Rattle.mv_harts_turns.specs.Groups.{IsSeat, adopts_last}
 use Rattle.mv_harts_turns.proofs.Seats.{none_on, on_none}
-use Rattle.mv_harts_turns.proofs.Places.{both_at, set_other}
+use Rattle.mv_harts_turns.proofs.Places.{both_at}
 use Rattle.mv_harts_turns.proofs.Reaching.{turned_map, turned_err, move_place, way_none, grew_nothing}
 use Rattle.mv_harts_turns.proofs.Following.{tested_goes, tested_waits, tested_adopts, freed_by, held_ok, adopted_ok, seat_by_code, seat_adopted, adopts_output, adopts_asked, adopts_on}
 use Rattle.mv_harts_turns.proofs.group.Group.follow.Goals as goal
@@ -59,7 +60,9 @@ adopt-requires-clause-on g c =
 pub adopt-requires-clause-few : goal.adopt-requires-clause-few
 adopt-requires-clause-few g c =
     let items = c.args.self.now.others.items in
-    (c.requires.ready.others c.args.place c.index_mut-in-Adopts.result.now (slice_get_read items (length items) c.args.place c.index_mut-in-Adopts.result.now refl (omega (arith, c.args.self.now.others.ok.0, c.requires.there)) c.index_mut-in-Adopts.ensures.value)).0
+    (c.requires.ready.others c.args.place c.index_mut-in-Adopts.result.now
+    (slice_get_read items (length items) c.args.place c.index_mut-in-Adopts.result.now refl
+    (omega (arith, c.args.self.now.others.ok.0, c.requires.there)) c.index_mut-in-Adopts.ensures.value)).0
 
 pub adopt-requires-clause-ready : goal.adopt-requires-clause-ready
 adopt-requires-clause-ready g c =
@@ -110,7 +113,8 @@ returns-in_ok-adopt-in-Adopts-clause-follows g c = λ image actions bytes hs o s
         old_there = old_at;
         own = set_there items n old c.adopt.new.seat old_at;
         rest = λ k ne. set_other items n k c.adopt.new.seat ne;
-        same_stop = none_on (suc n) c.adopt.new.seat (bytes (suc n)) (adopts_last o (last_of hs.commits)) is_seat.sits (adopts_on o (last_of hs.commits) ∙ on_none (suc n) old (bytes (suc n)) o old_is.sits (c.requires.on old old_at)) ∙ sym (c.requires.on old old_at);
+        same_stop = none_on (suc n) c.adopt.new.seat (bytes (suc n)) (adopts_last o (last_of hs.commits)) is_seat.sits
+            (adopts_on o (last_of hs.commits) ∙ on_none (suc n) old (bytes (suc n)) o old_is.sits (c.requires.on old old_at)) ∙ sym (c.requires.on old old_at);
         same_played = refl;
         same_wanted = refl;
         same_under = refl;
@@ -128,5 +132,11 @@ returns-in-Goes-clause-follows g c = λ image actions bytes hs o shown there one
     let is = both_at (IsSeat image hs.commits (suc n) (bytes (suc n))) (slice_get items n) (slice_get hs.others n) seen o at there (shown.others n) in
     let m = move o.state Skip None 0 in
     let glance_place = c.glance-glance.ensures.place (suc n) (bytes (suc n)) o is.sits one in
-    turned_map image actions (suc n) bytes _ _ _ hs _ _ _ _ (λ f d. (tt, sym (tested_goes hs n o m seen s c.glance-glance.result.place f (record { mode = is.sits.mode; wanted = shown.wanted; under = shown.under; at = glance_place ∙ sym (move_place o.state Skip None) }) (sym c.in-Goes.ensures) d))) c.run_on.result
+    turned_map image actions (suc n) bytes _ _ _ hs _ _ _ _
+    (λ f d. (
+      tt,
+      sym (tested_goes hs n o m seen s c.glance-glance.result.place f
+          (record { mode = is.sits.mode; wanted = shown.wanted; under = shown.under; at = glance_place ∙ sym (move_place o.state Skip None) })
+          (sym c.in-Goes.ensures) d),
+    )) c.run_on.result
     (c.run_on.ensures.goes image actions bytes hs o shown there (record { one = one; place = glance_place; store = c.glance-glance.ensures.store (suc n) (bytes (suc n)) o is.sits one }) left)

@@ -3,10 +3,11 @@ use Rattle.std.proofs.lemmas.Option.{slice_get_read}
 use Rattle.mv_num.proofs.Lists.{set_there}
 use Rattle.mv_harts_one.specs.Seats.{store_as}
 use Rattle.mv_harts_turns.specs.Groups.{IsSeat, Shared}
-use Rattle.mv_harts_turns.proofs.Places.{both_at, set_other}
+use Rattle.mv_harts_turns.proofs.Places.{both_at}
 use Rattle.mv_harts_turns.proofs.Reaching.{turned_err}
 use Rattle.mv_harts_turns.proofs.Following.{on_ok, on_step_refused, on_store_refused}
 use Rattle.mv_harts_turns.proofs.group.Group.run_on.Goals as goal
+use Rattle.mv_harts_runs.proofs.Lists.{set_other}
 
 pub step-requires-clause-on : goal.step-requires-clause-on
 step-requires-clause-on g c =

@@ -31,8 +31,12 @@ returns-clause-runs g c =
           (record { hart = walk.ensures.number ∙ c.self.invariant; image = refl; regs = refl; pc = refl; room = refl; bindings = refl })
           (walk.ensures.image ∙ ap (λ (m : Snapshot). m.image) c.self.view_is)
           _ _ _ _
-          (WithEvents (λ before now events. Fates (Becomes (λ probe. object_at probe.ptr probe.vtable) (λ probe. hearing ((goal.Probe-dyn g (probe.vtable, probe.value)).told probe.value) ((goal.Probe-dyn g (probe.vtable, probe.value)).patience probe.value)) events) before now))
-          (λ k l m xs ys before behind. (told_then _ _ xs ys k.0 l.0 m.0 before.0 behind.0, added k.1 l.1 xs ys m.1 before.1 behind.1)) (c.args.probes.now.items, []) (walk.new.probes.items, w.0) c.args.places walk.result.place c.args.steps c.executed.result
+          (WithEvents (λ before now events. Fates
+          (Becomes (λ probe. object_at probe.ptr probe.vtable)
+          (λ probe. hearing ((goal.Probe-dyn g (probe.vtable, probe.value)).told probe.value)
+          ((goal.Probe-dyn g (probe.vtable, probe.value)).patience probe.value)) events) before now))
+          (λ k l m xs ys before behind. (told_then _ _ xs ys k.0 l.0 m.0 before.0 behind.0, added k.1 l.1 xs ys m.1 before.1 behind.1))
+          (c.args.probes.now.items, []) (walk.new.probes.items, w.0) c.args.places walk.result.place c.args.steps c.executed.result
           c.args.actions.now c.new-operator.ensures walk.result.stopped walk.result.fetched c.unwrap_or.result c.unwrap_or.ensures c.executed.ensures w.2 walk.ensures.place,
     )
 

@@ -10,4 +10,5 @@ returns c =
     let s = c.self.inside in
     let rows = map (bits_at s.temps s.parts) (reverse s.numbers.rows.items) in
     subst (λ v. IfOk c.of_rows.result (AreRowSpans v.rows (length v.around.none))) c.self.view_is
-    (subst (λ n. IfOk c.of_rows.result (AreRowSpans rows n)) (sym (length-replicate s.temps false)) (subst (λ l. IfOk c.of_rows.result (AreRowSpans (map (bits_at s.temps s.parts) (reverse l)) s.temps)) c.as_slice.ensures.value c.of_rows.ensures))
+    (subst (λ n. IfOk c.of_rows.result (AreRowSpans rows n)) (sym (length-replicate s.temps false))
+    (subst (λ l. IfOk c.of_rows.result (AreRowSpans (map (bits_at s.temps s.parts) (reverse l)) s.temps)) c.as_slice.ensures.value c.of_rows.ensures))

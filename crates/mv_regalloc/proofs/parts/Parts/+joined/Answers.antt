@@ -41,7 +41,9 @@ remember-requires t c =
     (subst (λ q. q.even < length a) first c.part-first.ensures.even_within) (subst (λ q. q.even < length a) second c.part-second.ensures.even_within) h.within k.within
     (λ p. h.words p ∙ ap (λ q. bit_or (word_of a q.odd p) (word_of a c.part-second.result.odd p)) first ∙ ap (λ q. bit_or (word_of a (part_at a one).odd p) (word_of a q.odd p)) second)
     (λ p. k.words p ∙ ap (λ q. bit_or (word_of b q.even p) (word_of b c.part-second.result.even p)) first ∙ ap (λ q. bit_or (word_of b (part_at a one).even p) (word_of b q.even p)) second)
-    (c.in_ok-made.ensures.part ∙ ap (λ q. let r : Part = record { word = bit_or q.word c.part-second.result.word; odd = odd; even = even } in r) first ∙ ap (λ q. let r : Part = record { word = bit_or (part_at a one).word q.word; odd = odd; even = even } in r) second))
+    (c.in_ok-made.ensures.part ∙ ap
+    (λ q. let r : Part = record { word = bit_or q.word c.part-second.result.word; odd = odd; even = even } in r) first ∙
+    ap (λ q. let r : Part = record { word = bit_or (part_at a one).word q.word; odd = odd; even = even } in r) second))
 
 pub returns-clause-words : goal.returns-clause-words
 returns-clause-words t c =

@@ -6,4 +6,6 @@ use Rattle.mv_select.proofs.calls.calls.push_arguments.Given as goal
 -- with the code of the arguments that are left it is the whole
 abbrev pub invariant-loop-index : goal.invariant-loop-index
 invariant-loop-index l =
-    l.code ++ argument_lines (seats_at l.fn.places.rooms.now l.fn.places.keeping l.fn.places.pins.now) (10 + l.index) (drop l.index l.arguments) ≡ l.initial.code ++ argument_lines (seats_at l.fn.places.rooms.now l.fn.places.keeping l.fn.places.pins.now) 10 l.arguments
+    l.code ++ argument_lines (seats_at l.fn.places.rooms.now l.fn.places.keeping l.fn.places.pins.now) (10 + l.index)
+    (drop l.index l.arguments) ≡ l.initial.code ++ argument_lines
+    (seats_at l.fn.places.rooms.now l.fn.places.keeping l.fn.places.pins.now) 10 l.arguments

@@ -177,7 +177,8 @@ push_statement-returns-in-Return g t c =
     let s = c.args.statement.now in
     let v = c.in-Return.v in
     on_ok_weaker c.push_return.result (as_kind plan e s (at.Return v) c.in-Return.is c.args.way (return_code plan.seats plan.end v) c.push_return.new.self (code_return plan v))
-    (subst (λ s. OnOk c.push_return.result (c.push_return.new.self ≡ emitted e (return_code s plan.end v) c.args.way)) (seats_same c.places-places.ensures.rooms c.places-places.ensures.keeping c.places-places.ensures.pins) c.push_return.ensures)
+    (subst (λ s. OnOk c.push_return.result (c.push_return.new.self ≡ emitted e (return_code s plan.end v) c.args.way))
+    (seats_same c.places-places.ensures.rooms c.places-places.ensures.keeping c.places-places.ensures.pins) c.push_return.ensures)
 
 pub push_statement-returns : goal.push_statement-returns
 push_statement-returns g t c =
@@ -188,19 +189,54 @@ push_statement-returns g t c =
     let seats = seats_same c.places-places.ensures.rooms c.places-places.ensures.keeping c.places-places.ensures.pins in
     on_ok_weaker c.go_on.result
     (λ h. elim c.match-statement.branch [
-      | push_statement-in-Set+in_ok-push_set-in-Set w ↦ as_plain plan e s (at.Set w.in-Set.t w.in-Set.v) w.in-Set.is way (set_lines plan.seats w.in-Set.t w.in-Set.v) w.push_set.new.code c.go_on.new.self (code_set plan w.in-Set.t w.in-Set.v) (subst (λ s. w.push_set.new.code ≡ e.lines ++ set_lines s w.in-Set.t w.in-Set.v) seats w.in_ok-push_set-in-Set.ensures) (h ∙ ap (λ x. with_lines x (go_on way)) w.emitter-is)
-      | push_statement-in-SetGlobal+in_ok-push_set_global-in-SetGlobal w ↦ as_plain plan e s (at.SetGlobal w.in-SetGlobal.g w.in-SetGlobal.v) w.in-SetGlobal.is way (set_global_lines plan.seats w.in-SetGlobal.g w.in-SetGlobal.v) w.push_set_global.new.code c.go_on.new.self (code_setglobal plan w.in-SetGlobal.g w.in-SetGlobal.v) (subst (λ s. w.push_set_global.new.code ≡ e.lines ++ set_global_lines s w.in-SetGlobal.g w.in-SetGlobal.v) seats w.in_ok-push_set_global-in-SetGlobal.ensures) (h ∙ ap (λ x. with_lines x (go_on way)) w.emitter-is)
-      | push_statement-in-Divide+in_ok-push_divide-in-Divide w ↦ as_plain plan e s (at.Divide w.in-Divide.t w.in-Divide.o w.in-Divide.a w.in-Divide.b) w.in-Divide.is way (divide_lines plan.seats w.in-Divide.t w.in-Divide.o w.in-Divide.a w.in-Divide.b) w.push_divide.new.code c.go_on.new.self (code_divide plan w.in-Divide.t w.in-Divide.o w.in-Divide.a w.in-Divide.b) (subst (λ s. w.push_divide.new.code ≡ e.lines ++ divide_lines s w.in-Divide.t w.in-Divide.o w.in-Divide.a w.in-Divide.b) seats w.in_ok-push_divide-in-Divide.ensures) (h ∙ ap (λ x. with_lines x (go_on way)) w.emitter-is)
-      | push_statement-in-Check+in_ok-push_check_of-in-Check w ↦ as_plain plan e s (at.Check w.in-Check.a w.in-Check.i) w.in-Check.is way (check_lines plan.seats (size plan w.in-Check.a) (tests plan w.in-Check.a) w.in-Check.i) w.push_check_of.new.code c.go_on.new.self (code_check plan w.in-Check.a w.in-Check.i) w.in_ok-push_check_of-in-Check.ensures (h ∙ ap (λ x. with_lines x (go_on way)) w.emitter-is)
-      | push_statement-in-Read+in_ok-push_read_of-in-Read w ↦ as_plain plan e s (at.Read w.in-Read.t w.in-Read.a w.in-Read.i) w.in-Read.is way (read_lines plan.seats w.in-Read.t (home plan w.in-Read.a) (size plan w.in-Read.a) (tests plan w.in-Read.a) w.in-Read.i) w.push_read_of.new.code c.go_on.new.self (code_read plan w.in-Read.t w.in-Read.a w.in-Read.i) w.in_ok-push_read_of-in-Read.ensures (h ∙ ap (λ x. with_lines x (go_on way)) w.emitter-is)
-      | push_statement-in-Write+in_ok-push_write_of-in-Write w ↦ as_plain plan e s (at.Write w.in-Write.a w.in-Write.i w.in-Write.v) w.in-Write.is way (write_lines plan.seats (home plan w.in-Write.a) (size plan w.in-Write.a) (tests plan w.in-Write.a) w.in-Write.i w.in-Write.v) w.push_write_of.new.code c.go_on.new.self (code_write plan w.in-Write.a w.in-Write.i w.in-Write.v) w.in_ok-push_write_of-in-Write.ensures (h ∙ ap (λ x. with_lines x (go_on way)) w.emitter-is)
+      | push_statement-in-Set+in_ok-push_set-in-Set w ↦
+          as_plain plan e s (at.Set w.in-Set.t w.in-Set.v) w.in-Set.is way
+          (set_lines plan.seats w.in-Set.t w.in-Set.v) w.push_set.new.code c.go_on.new.self (code_set plan w.in-Set.t w.in-Set.v)
+          (subst (λ s. w.push_set.new.code ≡ e.lines ++ set_lines s w.in-Set.t w.in-Set.v) seats w.in_ok-push_set-in-Set.ensures)
+          (h ∙ ap (λ x. with_lines x (go_on way)) w.emitter-is)
+      | push_statement-in-SetGlobal+in_ok-push_set_global-in-SetGlobal w ↦
+          as_plain plan e s (at.SetGlobal w.in-SetGlobal.g w.in-SetGlobal.v) w.in-SetGlobal.is way
+          (set_global_lines plan.seats w.in-SetGlobal.g w.in-SetGlobal.v) w.push_set_global.new.code c.go_on.new.self
+          (code_setglobal plan w.in-SetGlobal.g w.in-SetGlobal.v)
+          (subst (λ s. w.push_set_global.new.code ≡ e.lines ++ set_global_lines s w.in-SetGlobal.g w.in-SetGlobal.v) seats w.in_ok-push_set_global-in-SetGlobal.ensures)
+          (h ∙ ap (λ x. with_lines x (go_on way)) w.emitter-is)
+      | push_statement-in-Divide+in_ok-push_divide-in-Divide w ↦
+          as_plain plan e s (at.Divide w.in-Divide.t w.in-Divide.o w.in-Divide.a w.in-Divide.b) w.in-Divide.is way
+          (divide_lines plan.seats w.in-Divide.t w.in-Divide.o w.in-Divide.a w.in-Divide.b) w.push_divide.new.code c.go_on.new.self
+          (code_divide plan w.in-Divide.t w.in-Divide.o w.in-Divide.a w.in-Divide.b)
+          (subst (λ s. w.push_divide.new.code ≡ e.lines ++ divide_lines s w.in-Divide.t w.in-Divide.o w.in-Divide.a w.in-Divide.b) seats w.in_ok-push_divide-in-Divide.ensures)
+          (h ∙ ap (λ x. with_lines x (go_on way)) w.emitter-is)
+      | push_statement-in-Check+in_ok-push_check_of-in-Check w ↦
+          as_plain plan e s (at.Check w.in-Check.a w.in-Check.i) w.in-Check.is way
+          (check_lines plan.seats (size plan w.in-Check.a) (tests plan w.in-Check.a) w.in-Check.i) w.push_check_of.new.code c.go_on.new.self
+          (code_check plan w.in-Check.a w.in-Check.i) w.in_ok-push_check_of-in-Check.ensures (h ∙ ap (λ x. with_lines x (go_on way)) w.emitter-is)
+      | push_statement-in-Read+in_ok-push_read_of-in-Read w ↦
+          as_plain plan e s (at.Read w.in-Read.t w.in-Read.a w.in-Read.i) w.in-Read.is way
+          (read_lines plan.seats w.in-Read.t (home plan w.in-Read.a) (size plan w.in-Read.a)
+          (tests plan w.in-Read.a) w.in-Read.i) w.push_read_of.new.code c.go_on.new.self
+          (code_read plan w.in-Read.t w.in-Read.a w.in-Read.i) w.in_ok-push_read_of-in-Read.ensures
+          (h ∙ ap (λ x. with_lines x (go_on way)) w.emitter-is)
+      | push_statement-in-Write+in_ok-push_write_of-in-Write w ↦
+          as_plain plan e s (at.Write w.in-Write.a w.in-Write.i w.in-Write.v) w.in-Write.is way
+          (write_lines plan.seats (home plan w.in-Write.a) (size plan w.in-Write.a)
+          (tests plan w.in-Write.a) w.in-Write.i w.in-Write.v) w.push_write_of.new.code c.go_on.new.self
+          (code_write plan w.in-Write.a w.in-Write.i w.in-Write.v) w.in_ok-push_write_of-in-Write.ensures
+          (h ∙ ap (λ x. with_lines x (go_on way)) w.emitter-is)
       | push_statement-in-Zero+in_ok-push_zero-in-Zero w ↦ let a = w.in-Zero.a in
           let space = w.space_of.ensures.value ∙ ap (λ l. space_in l a) w.as_slice.ensures in
           let written = w.in_ok-push_zero-in-Zero.ensures ∙ ap (λ (x : Space). let r : Emitter = record e { lines = e.lines ++ zero_lines e.free x.at x.size; free = e.free + 2 } in r) space in
           as_kind plan e s (at.Zero a) w.in-Zero.is way (zero_code (plan.array_at a) (plan.array_size a)) c.go_on.new.self (code_zero plan a)
           (zero_written e w.push_zero.new.self c.go_on.new.self way (plan.array_at a) (plan.array_size a) written (h ∙ ap (λ x. with_lines x (go_on way)) w.emitter-is))
-      | push_statement-in-Call+in_ok-push_call-in-Call w ↦ as_plain plan e s (at.Call w.in-Call.t w.in-Call.f w.in-Call.args) w.in-Call.is way (plan.calls.call w.in-Call.t w.in-Call.f w.in-Call.args) w.push_call.new.code c.go_on.new.self (code_call plan w.in-Call.t w.in-Call.f w.in-Call.args) w.in_ok-push_call-in-Call.ensures (h ∙ ap (λ x. with_lines x (go_on way)) w.emitter-is)
-      | push_statement-in-Known+in_ok-push_known-in-Known w ↦ as_plain plan e s (at.Known w.in-Known.t w.in-Known.k w.in-Known.args) w.in-Known.is way (plan.calls.known w.in-Known.t w.in-Known.k w.in-Known.args) w.push_known.new.code c.go_on.new.self (code_known plan w.in-Known.t w.in-Known.k w.in-Known.args) w.in_ok-push_known-in-Known.ensures (h ∙ ap (λ x. with_lines x (go_on way)) w.emitter-is)
+      | push_statement-in-Call+in_ok-push_call-in-Call w ↦
+          as_plain plan e s (at.Call w.in-Call.t w.in-Call.f w.in-Call.args) w.in-Call.is way
+          (plan.calls.call w.in-Call.t w.in-Call.f w.in-Call.args) w.push_call.new.code c.go_on.new.self
+          (code_call plan w.in-Call.t w.in-Call.f w.in-Call.args) w.in_ok-push_call-in-Call.ensures
+          (h ∙ ap (λ x. with_lines x (go_on way)) w.emitter-is)
+      | push_statement-in-Known+in_ok-push_known-in-Known w ↦
+          as_plain plan e s (at.Known w.in-Known.t w.in-Known.k w.in-Known.args) w.in-Known.is way
+          (plan.calls.known w.in-Known.t w.in-Known.k w.in-Known.args) w.push_known.new.code c.go_on.new.self
+          (code_known plan w.in-Known.t w.in-Known.k w.in-Known.args) w.in_ok-push_known-in-Known.ensures
+          (h ∙ ap (λ x. with_lines x (go_on way)) w.emitter-is)
     ])
     c.go_on.ensures
 
